@@ -1,0 +1,3 @@
+-- The laws that several proofs of this crate, and its callers, cite.
+pub mod Search
+pub mod Owner

@@ -1,0 +1,124 @@
+// The search for an entry, and the look-up of an address, on a table known to be sound.
+ghost use mathlib.Core.Path.{_≡_};
+ghost use mathlib.Core.List.{map};
+ghost use mathlib.Core.Bool.{true};
+ghost use Prim.Native.Nat.{_<_, _≤_, _%_};
+ghost use lib.ListN.{length, take};
+ghost use Rattle.memory.specs.Pieces.{memory, entryOf, committed};
+ghost use Rattle.memory.specs.Logical.{indexOf, indexOn, shows, ownedAt, logical};
+ghost use Rattle.memory.specs.Sound.{sound};
+use memory::Held;
+use memory::Outcome;
+use memory::Phase;
+use memory::Seen;
+use memory::Sizes;
+
+// Where the entry for an address stands among the first n of a run; n if there is none.
+pub fn index_of(run: &[[u32; 5]], n: usize, address: u32) -> usize
+    requires { ⌜ n ≤ length (now run) ⌝ }
+    ensures { λ r. ⌜ r ≡ indexOf address (map entryOf (take n (now (run .entry)))) ⌝ }
+{
+    let mut at = 0;
+    while at < n {
+        if run[at][0] == address {
+            return at;
+        }
+        at += 1;
+    }
+    at
+}
+
+// The same for the first entry on a record.
+pub fn index_on(run: &[[u32; 5]], n: usize, records: u32, record: u32) -> usize
+    requires { ⌜ (n ≤ length (now run)) × (0 < records) ⌝ }
+    ensures { λ r. ⌜ r ≡ indexOn records «record» (map entryOf (take n (now (run .entry)))) ⌝ }
+{
+    let mut on = 0;
+    while on < n {
+        if run[on][0] % records == record {
+            return on;
+        }
+        on += 1;
+    }
+    on
+}
+
+// Whether a transaction in this phase counts as committed.
+pub fn is_committed(phase: Phase) -> bool
+    ensures { λ r. ⌜ r ≡ committed phase ⌝ }
+{
+    match phase {
+        Phase::Writing(_) => true,
+        Phase::Releasing(outcome, _) => match outcome {
+            Outcome::Committed => true,
+            Outcome::Failed => false,
+            Outcome::Woken => false,
+        },
+        Phase::Idle => false,
+        Phase::Open => false,
+        Phase::Taking(_, _) => false,
+        Phase::Asleep => false,
+    }
+}
+
+// What an entry shows: the new value and version if its task is committed, otherwise the old ones.
+fn shown(row: [u32; 5], done: bool) -> Seen
+    ensures { λ r. ⌜ r ≡ shows done (entryOf row) ⌝ }
+{
+    let entry = codec::entry_of(row);
+    if done { entry.new } else { entry.old }
+}
+
+// What an owner with n entries shows at an address on a record that it owns: its entry for the address, or the word itself with the
+// version of its entries on the record.
+fn owned_at(records: u32, done: bool, run: &[[u32; 5]], n: usize, address: u32, word: u32) -> Seen
+    requires { ⌜ (n ≤ length (now run)) × (0 < records) × (indexOn records (address % records) (map entryOf (take n (now run))) < n) ⌝ }
+    ensures { λ r. ⌜ r ≡ ownedAt records done (map entryOf (take n (now (run .entry)))) address word ⌝ }
+{
+    let at = index_of(run, n, address);
+    if at < n {
+        shown(run[at], done)
+    } else {
+        let on = index_on(run, n, records, address % records);
+        let owner = shown(run[on], done);
+        Seen {
+            value: word,
+            version: owner.version,
+        }
+    }
+}
+
+// The logical value and version of an address, on a table known to be sound.
+pub fn logical(
+    sizes: Sizes,
+    words: &[u32],
+    records: &[u32],
+    places: &[[u32; 3]],
+    entries: &[[u32; 5]],
+    address: usize,
+) -> Seen
+    requires { ⌜ (sound sizes (memory (now words) (now records) (now places) (now entries)) ≡ true) × (address < sizes .words) ⌝ }
+    ensures { λ r. ⌜ r ≡ logical sizes (memory (now (words .entry)) (now (records .entry)) (now (places .entry)) (now (entries .entry))) address ⌝ }
+{
+    let word = words[address];
+    let held = codec::held_of(records[address % sizes.records]);
+    match held {
+        Held::Version(version) => Seen {
+            value: word,
+            version,
+        },
+        Held::Owner(task) => {
+            let place = codec::place_of(places[task]);
+            let start = memory::MOST_ENTRIES * task;
+            let phase = place.phase;
+            owned_at(
+                sizes.records as u32,
+                is_committed(phase),
+                &entries[start..],
+                place.count,
+                address as u32,
+                word,
+            )
+        }
+    }
+}
