@@ -1,0 +1,4 @@
+-- Laws that the proofs share.
+mod Passed
+mod Parts
+mod Whole

@@ -1,0 +1,2 @@
+-- What the step asks and does, as the contracts cite it.
+pub mod Contract

@@ -1,0 +1,165 @@
+// A step over one entry: its record is taken, its word is written, its record is released. Each says the task's next phase.
+ghost use mathlib.Core.Path.{_≡_};
+ghost use mathlib.Core.List.{[]};
+ghost use Prim.Native.Nat.{_+_, _%_, _<_};
+ghost use lib.ListN.{length, getD};
+ghost use Rattle.memory.specs.Pieces.{entryOf, runStart};
+ghost use Rattle.steps.specs.Contract.{MayTake, Took, MayWrite, Wrote, MayRelease, Released, versionBy, MayMeet, Met, metIn};
+use memory::Entry;
+use memory::Goal;
+use memory::Held;
+use memory::Outcome;
+use memory::Phase;
+use memory::Place;
+use memory::Sizes;
+
+// Entry i of a task.
+fn entry_at(i: usize, sizes: Sizes, entries: &[[u32; 5]], task: usize) -> Entry
+    requires { ⌜ runStart sizes task + i < length (now entries) ⌝ }
+    ensures { λ r. ⌜ r ≡ entryOf (getD (now (entries .entry)) (runStart sizes task + i) []) ⌝ }
+{
+    let start = memory::MOST_ENTRIES * task;
+    let row = entries[start + i];
+    codec::entry_of(row)
+}
+
+fn wide(x: u32) -> usize
+    ensures { λ r. ⌜ r ≡ x ⌝ }
+{
+    x as usize
+}
+
+// The record that an address belongs to.
+fn record_of(address: u32, sizes: Sizes) -> usize
+    requires { ⌜ 0 < sizes .records ⌝ }
+    ensures { λ r. ⌜ r ≡ address % sizes .records ⌝ }
+{
+    wide(address) % sizes.records
+}
+
+// The phase of an owner that another task met: whoever took or slept is ended, any other is untouched.
+fn met(phase: Phase) -> Phase
+    ensures { λ r. ⌜ r ≡ metIn phase ⌝ }
+{
+    match phase {
+        Phase::Idle => Phase::Idle,
+        Phase::Open => Phase::Open,
+        Phase::Taking(_, _) => Phase::Releasing(Outcome::Failed, 0),
+        Phase::Asleep => Phase::Releasing(Outcome::Woken, 0),
+        Phase::Writing(i) => Phase::Writing(i),
+        Phase::Releasing(outcome, i) => Phase::Releasing(outcome, i),
+    }
+}
+
+// Another task met the owner of a record: the owner's place is moved on.
+fn clash(owner: usize, places: &mut [[u32; 3]])
+    requires { ⌜ MayMeet (now places) owner ⌝ }
+    ensures { λ r. ⌜ Met owner (now (places .entry)) (now (places .exit)) ⌝ }
+{
+    let row = places[owner];
+    let place = codec::place_of(row);
+    let count = place.count;
+    let phase = place.phase;
+    let after = met(phase);
+    let back = codec::row_of(Place {
+        count,
+        phase: after,
+    });
+    places[owner] = back;
+}
+
+// Taking at i < n: the record of entry i is taken, or was the task's already; otherwise the task fails.
+pub fn take(
+    goal: Goal,
+    i: usize,
+    sizes: Sizes,
+    records: &mut [u32],
+    places: &mut [[u32; 3]],
+    entries: &[[u32; 5]],
+    task: usize,
+) -> Phase
+    requires { ⌜ MayTake sizes (now records) (now places) (now entries) task i ⌝ }
+    ensures { λ r. ⌜ Took goal i sizes (now (records .entry)) (now (places .entry)) (now (entries .entry)) task r (now (records .exit)) (now (places .exit)) ⌝ }
+{
+    let entry = entry_at(i, sizes, entries, task);
+    let old = entry.old;
+    let at = record_of(entry.address, sizes);
+    let next = i + 1;
+    let goes_on = Phase::Taking(goal, next);
+    let fails = Phase::Releasing(Outcome::Failed, 0);
+    match codec::held_of(records[at]) {
+        Held::Version(version) => {
+            if version == old.version {
+                let mine = codec::owner_number(task);
+                records[at] = mine;
+                goes_on
+            } else {
+                fails
+            }
+        }
+        Held::Owner(owner) => {
+            if owner == task {
+                goes_on
+            } else {
+                clash(owner, places);
+                fails
+            }
+        }
+    }
+}
+
+// Writing at i < n: the word takes entry i's new value.
+pub fn write(i: usize, sizes: Sizes, words: &mut [u32], entries: &[[u32; 5]], task: usize) -> Phase
+    requires { ⌜ MayWrite sizes (now words) (now entries) task i ⌝ }
+    ensures { λ r. ⌜ Wrote i sizes (now (words .entry)) (now (entries .entry)) task r (now (words .exit)) ⌝ }
+{
+    let entry = entry_at(i, sizes, entries, task);
+    let new = entry.new;
+    let address = wide(entry.address);
+    let next = i + 1;
+    words[address] = new.value;
+    Phase::Writing(next)
+}
+
+// The version that a released record gets: the new one when committed, else the old one.
+fn released(outcome: Outcome, entry: Entry) -> u32
+    ensures { λ r. ⌜ r ≡ versionBy outcome entry ⌝ }
+{
+    let old = entry.old;
+    let new = entry.new;
+    match outcome {
+        Outcome::Committed => new.version,
+        Outcome::Failed => old.version,
+        Outcome::Woken => old.version,
+    }
+}
+
+// Releasing at i < n: if the task still owns the record of entry i, it gets a version again.
+pub fn release(
+    outcome: Outcome,
+    i: usize,
+    sizes: Sizes,
+    records: &mut [u32],
+    entries: &[[u32; 5]],
+    task: usize,
+) -> Phase
+    requires { ⌜ MayRelease sizes (now records) (now entries) task i ⌝ }
+    ensures { λ r. ⌜ Released outcome i sizes (now (records .entry)) (now (entries .entry)) task r (now (records .exit)) ⌝ }
+{
+    let entry = entry_at(i, sizes, entries, task);
+    let at = record_of(entry.address, sizes);
+    let next = i + 1;
+    let goes_on = Phase::Releasing(outcome, next);
+    match codec::held_of(records[at]) {
+        Held::Version(_) => goes_on,
+        Held::Owner(owner) => {
+            if owner == task {
+                let version = released(outcome, entry);
+                records[at] = codec::version_number(version);
+                goes_on
+            } else {
+                goes_on
+            }
+        }
+    }
+}
