@@ -1,0 +1,109 @@
+-- Laws of tests: of two together, of a callee's answer, of every number below a count, and of a list after a store.
+use Prim.Native.Nat.{ℕ, zero, suc, _+_, _≤_, _<_}
+use native.Mathlib.Omega.{arith}
+use native.Mathlib.Numerals.{add-one}
+use mathlib.Core.Path.{_≡_, refl, sym, _∙_}
+use mathlib.Core.Logic.{⊎-elim, _⊎_, inl, inr}
+use mathlib.Core.List.{List}
+use mathlib.Core.Bool.{Bool, true, false, not, _&&_, _||_}
+use lib.ListN.{length, getD, set}
+use lib.Seq.{getD-set-same, getD-set-other}
+use lib.Dec.{eqb}
+use borrow.Author.Tests.{not-true, not-false, eqb-true, eqb-false}
+use Rattle.memory.specs.Sound.{allBelow}
+
+pub same? : (a b : ℕ) → (a ≡ b) ⊎ (a ≡ b → ⊥)
+same? a b = go (eqb a b) refl
+  where
+    go : (t : Bool) → eqb a b ≡ t → (a ≡ b) ⊎ (a ≡ b → ⊥)
+    go true e = inl (eqb-true a b e)
+    go false e = inr (eqb-false a b e)
+
+-- a callee's answer `r` to a test `b`, refused or passed by `if !r`
+pub refused : {r b : Bool} → r ≡ b → not r ≡ true → b ≡ false
+refused {r} e h = sym e ∙ not-true r h
+
+pub passed : {r b : Bool} → r ≡ b → not r ≡ false → b ≡ true
+passed {r} e h = sym e ∙ not-false r h
+
+-- `a && b` as it is computed: b where a holds, and a where not
+pub and-then : {a b r : Bool} → a ≡ true → r ≡ b → r ≡ (a && b)
+and-then h k = rw h k
+
+pub and-stop : {a r : Bool} (b : Bool) → a ≡ false → r ≡ a → r ≡ (a && b)
+and-stop b h k = rw h (k ∙ h)
+
+pub and-both : {a b : Bool} → a ≡ true → b ≡ true → (a && b) ≡ true
+and-both h k = rw (h, k)
+
+pub and-none : (a : Bool) → (a && false) ≡ false
+and-none true = refl
+and-none false = refl
+
+pub and-false : (a : Bool) {b : Bool} → b ≡ false → (a && b) ≡ false
+and-false a h = rw h (and-none a)
+
+pub and-one : (a : Bool) → (a && true) ≡ a
+and-one true = refl
+and-one false = refl
+
+pub and-0 : (a b : Bool) → (a && b) ≡ true → a ≡ true
+and-0 true b h = refl
+and-0 false b h = h
+
+pub and-1 : (a b : Bool) → (a && b) ≡ true → b ≡ true
+and-1 true b h = h
+and-1 false true h = refl
+and-1 false false h = h
+
+pub or-none : (a : Bool) → (a || false) ≡ a
+or-none true = refl
+or-none false = refl
+
+pub or-true : (a : Bool) {b : Bool} → b ≡ true → (a || b) ≡ true
+or-true true h = refl
+or-true false h = h
+
+-- a test of every number below a count: one number more, the whole count, one fault
+module _ (p : ℕ → Bool) where
+  pub below-more : (i : ℕ) → allBelow i p ≡ true → p i ≡ true → allBelow (i + 1) p ≡ true
+  unfolding allBelow
+  below-more i h k = rw (add-one, h, k)
+
+  pub below-all : (i n : ℕ) → allBelow i p ≡ true → n ≤ i → i ≤ n → allBelow n p ≡ true
+  below-all i n h k l = let e : n ≡ i = omega arith in rw e h
+
+  pub below-make : (n : ℕ) → ((i : ℕ) → i < n → p i ≡ true) → allBelow n p ≡ true
+  unfolding allBelow
+  below-make zero f = refl
+  below-make (suc n) f = rw (below-make n (λ i h. f i (omega arith)), f n (omega arith))
+
+  pub below-fault : (n i : ℕ) → i < n → p i ≡ false → allBelow n p ≡ false
+  unfolding allBelow
+  below-fault zero i h k = absurd (omega arith)
+  below-fault (suc n) i h k =
+      ⊎-elim
+      (λ (e : i ≡ n). and-false (allBelow n p) (rw e at k))
+      (λ (d : i ≡ n → ⊥). rw (below-fault n i (omega arith) k))
+      (same? i n)
+
+pub below-at : (p : ℕ → Bool) (n : ℕ) → allBelow n p ≡ true → (i : ℕ) → i < n → p i ≡ true
+below-at p n h i k = go (p i) refl
+  where
+    go : (b : Bool) → p i ≡ b → p i ≡ true
+    go true e = e
+    go false e = e ∙ sym (below-fault p n i k e) ∙ h
+
+pub below-same : (p q : ℕ → Bool) (n : ℕ) → ((i : ℕ) → i < n → p i ≡ q i) → allBelow n p ≡ allBelow n q
+unfolding allBelow
+below-same p q zero f = refl
+below-same p q (suc n) f = rw (below-same p q n (λ i h. f i (omega arith)), f n (omega arith))
+
+-- a list after a store, at the place and elsewhere
+pub after-set : {A : Type 0} (l : List A) (i k : ℕ) (v d : A) → i < length l
+    → ((k ≡ i) × (getD (set l i v) k d ≡ v)) ⊎ ((k ≡ i → ⊥) × (getD (set l i v) k d ≡ getD l k d))
+after-set l i k v d h =
+    ⊎-elim
+    (λ (e : k ≡ i). inl (e, rw e (getD-set-same l i v d h)))
+    (λ (n : k ≡ i → ⊥). inr (n, getD-set-other l i k v d n))
+    (same? k i)
