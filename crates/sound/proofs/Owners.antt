@@ -17,7 +17,8 @@ use Rattle.memory.specs.declared.Entry.{Entry}
 use Rattle.memory.specs.Pieces.{if_then_else_, Memory, steps, heldOf, held, firstOwner, place, placeOf, entry, limit}
 use Rattle.memory.specs.Sound.{allBelow, someBelow, countsFrom, ownerOk, heldOk, taskOk}
 use Rattle.sound.specs.Parts.{ownsFrom, recordOk, recordsOk}
-use Rattle.sound.proofs.Tests.{same?, or-none, or-true, and-0, and-false, below-at, below-same, after-set}
+use Rattle.memory.proofs.Tools.{same?, or-right-make, and-0, below-at}
+use Rattle.sound.proofs.Tests.{or-none, and-false, below-same, after-set}
 use Rattle.sound.proofs.Pairs.{count-most}
 
 -- of the first i entries, one from place `from` on is on record r
@@ -144,7 +145,7 @@ module _ (z : Sizes) (m : Memory) where
 
     found : held m r ≡ Owner t → counts ≡ true → vouched z m t (i + 1) r (held m r) ≡ true
     unfolding vouched
-    found e h = rw (e, reach-at m t (i + 1) t refl) (more ∙ or-true (on i) h)
+    found e h = rw (e, reach-at m t (i + 1) t refl) (more ∙ or-right-make (on i) h)
 
   module _ {t i : ℕ} {owned : List Bool} (v : Vouched z m t i owned) where
     vouched-kept : ((r : ℕ) → held m r ≡ Owner t → counts t i r ≡ false) → Vouched z m t (i + 1) owned
@@ -185,7 +186,7 @@ module _ (z : Sizes) (m : Memory) where
           → onRecord (z .records) r (ownsFrom z (place m u)) (entry z m u) (reach m (z .tasks) 0 u) ≡ (b && ownerOk (z .records) r (place m u) (entry z m u))
       go true h =
           let k : u < z .tasks = ltb-true u (z .tasks) h in
-          rw (reach-before m (z .tasks) 0 u k) (owner-all z r (place m u) (entry z m u) (counts-64 u (below-at _ (z .tasks) ok u k)))
+          rw (reach-before m (z .tasks) 0 u k) (owner-all z r (place m u) (entry z m u) (counts-64 u (below-at (z .tasks) _ ok u k)))
       go false h = rw (reach-rest m (z .tasks) u (ltb-false u (z .tasks) h)) refl
 
   -- at the walk's end the marks are what each record asks of its owner

@@ -12,7 +12,8 @@ use Rattle.memory.specs.declared.Entry.{Entry}
 use Rattle.memory.specs.Pieces.{Memory, placeOf, place, entry, limit}
 use Rattle.memory.specs.Sound.{allBelow, apart, entryOk, entriesOk, placeOk, taskOk}
 use Rattle.sound.specs.Parts.{agree}
-use Rattle.sound.proofs.Tests.{and-false, and-0, and-1, below-make, below-fault, after-set}
+use Rattle.memory.proofs.Tools.{and-0, and-1, below-make}
+use Rattle.sound.proofs.Tests.{and-false, below-fault, after-set}
 
 -- two entries on one record agree or are a fault; on two records they are apart
 module _ (n : ℕ) (e f : Entry) where
@@ -58,7 +59,7 @@ module _ {n : ℕ} {e : ℕ → Entry} {mark : ℕ} {seen last : List ℕ} where
 
   -- an entry on a record that has not the mark is apart from all before it
   pub fresh : {i : ℕ} → Noted n e mark seen last i → (getD last (e i .address % n) 0 ≡ mark → ⊥) → allBelow i (λ k. apart n (e k) (e i)) ≡ true
-  fresh {i} h d = below-make _ i (λ k l. apart-two n (e k) (e i) (λ p. d (ap (λ (x : ℕ). getD last x 0) (sym p) ∙ h .last-at k l)))
+  fresh {i} h d = below-make i _ (λ k l. apart-two n (e k) (e i) (λ p. d (ap (λ (x : ℕ). getD last x 0) (sym p) ∙ h .last-at k l)))
 
 -- the faults of task t: of its row, of entry i by itself, of the pair (j, i)
 module _ (z : Sizes) (m : Memory) (t : ℕ) (ht : t < z .tasks) where

@@ -8,16 +8,9 @@ use mathlib.Core.List.{List}
 use mathlib.Core.Bool.{Bool, true, false, not, _&&_, _||_}
 use lib.ListN.{length, getD, set}
 use lib.Seq.{getD-set-same, getD-set-other}
-use lib.Dec.{eqb}
-use borrow.Author.Tests.{not-true, not-false, eqb-true, eqb-false}
+use borrow.Author.Tests.{not-true, not-false}
 use Rattle.memory.specs.Sound.{allBelow}
-
-pub same? : (a b : ℕ) → (a ≡ b) ⊎ (a ≡ b → ⊥)
-same? a b = go (eqb a b) refl
-  where
-    go : (t : Bool) → eqb a b ≡ t → (a ≡ b) ⊎ (a ≡ b → ⊥)
-    go true e = inl (eqb-true a b e)
-    go false e = inr (eqb-false a b e)
+use Rattle.memory.proofs.Tools.{same?}
 
 -- a callee's answer `r` to a test `b`, refused or passed by `if !r`
 pub refused : {r b : Bool} → r ≡ b → not r ≡ true → b ≡ false
@@ -33,9 +26,6 @@ and-then h k = rw h k
 pub and-stop : {a r : Bool} (b : Bool) → a ≡ false → r ≡ a → r ≡ (a && b)
 and-stop b h k = rw h (k ∙ h)
 
-pub and-both : {a b : Bool} → a ≡ true → b ≡ true → (a && b) ≡ true
-and-both h k = rw (h, k)
-
 pub and-none : (a : Bool) → (a && false) ≡ false
 and-none true = refl
 and-none false = refl
@@ -47,22 +37,9 @@ pub and-one : (a : Bool) → (a && true) ≡ a
 and-one true = refl
 and-one false = refl
 
-pub and-0 : (a b : Bool) → (a && b) ≡ true → a ≡ true
-and-0 true b h = refl
-and-0 false b h = h
-
-pub and-1 : (a b : Bool) → (a && b) ≡ true → b ≡ true
-and-1 true b h = h
-and-1 false true h = refl
-and-1 false false h = h
-
 pub or-none : (a : Bool) → (a || false) ≡ a
 or-none true = refl
 or-none false = refl
-
-pub or-true : (a : Bool) {b : Bool} → b ≡ true → (a || b) ≡ true
-or-true true h = refl
-or-true false h = h
 
 -- a test of every number below a count: one number more, the whole count, one fault
 module _ (p : ℕ → Bool) where
@@ -73,11 +50,6 @@ module _ (p : ℕ → Bool) where
   pub below-all : (i n : ℕ) → allBelow i p ≡ true → n ≤ i → i ≤ n → allBelow n p ≡ true
   below-all i n h k l = let e : n ≡ i = omega arith in rw e h
 
-  pub below-make : (n : ℕ) → ((i : ℕ) → i < n → p i ≡ true) → allBelow n p ≡ true
-  unfolding allBelow
-  below-make zero f = refl
-  below-make (suc n) f = rw (below-make n (λ i h. f i (omega arith)), f n (omega arith))
-
   pub below-fault : (n i : ℕ) → i < n → p i ≡ false → allBelow n p ≡ false
   unfolding allBelow
   below-fault zero i h k = absurd (omega arith)
@@ -86,13 +58,6 @@ module _ (p : ℕ → Bool) where
       (λ (e : i ≡ n). and-false (allBelow n p) (rw e at k))
       (λ (d : i ≡ n → ⊥). rw (below-fault n i (omega arith) k))
       (same? i n)
-
-pub below-at : (p : ℕ → Bool) (n : ℕ) → allBelow n p ≡ true → (i : ℕ) → i < n → p i ≡ true
-below-at p n h i k = go (p i) refl
-  where
-    go : (b : Bool) → p i ≡ b → p i ≡ true
-    go true e = e
-    go false e = e ∙ sym (below-fault p n i k e) ∙ h
 
 pub below-same : (p q : ℕ → Bool) (n : ℕ) → ((i : ℕ) → i < n → p i ≡ q i) → allBelow n p ≡ allBelow n q
 unfolding allBelow

@@ -12,7 +12,8 @@ use Rattle.memory.specs.declared.Held.the-variants.{Version, Owner}
 use Rattle.memory.specs.Pieces.{memory, heldOf, held, place, entry, limit}
 use Rattle.memory.specs.Sound.{within, sizesOk, lengthsOk, taskOk, heldOk, sound}
 use Rattle.sound.specs.Parts.{Fit, tablesOk}
-use Rattle.sound.proofs.Tests.{and-0, and-1, below-same}
+use Rattle.memory.proofs.Tools.{and-0, and-1}
+use Rattle.sound.proofs.Tests.{below-same}
 
 module _ (low high n : ℕ) (h : within low high n ≡ true) where
   pub within-low : low ≤ n

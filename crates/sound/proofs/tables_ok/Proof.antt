@@ -14,7 +14,8 @@ use Rattle.memory.specs.Pieces as pieces
 use Rattle.memory.specs.declared.Sizes.{Sizes}
 use Rattle.memory.specs.Sound.{allBelow, entriesOk, placeOk, taskOk}
 use Rattle.sound.specs.Parts.{tablesOk}
-use Rattle.sound.proofs.Tests.{refused, passed, and-both, and-then, and-stop, below-more, below-all}
+use Rattle.memory.proofs.Tools.{and-make}
+use Rattle.sound.proofs.Tests.{refused, passed, and-then, and-stop, below-more, below-all}
 use Rattle.sound.proofs.Pairs.{apartBelow, apart-one, apart-two, Noted, noted-none, noted-more, fresh, place-fault, entry-fault, pair-fault, count-most}
 use Rattle.sound.proofs.Owners.{Vouched, vouched-none, vouched-next, vouched-early, vouched-other, vouched-more, records-same}
 use Rattle.sound.proofs.tables_ok.Statement.{statement}
@@ -107,7 +108,7 @@ entries-again c =
       omega arith,
       p .1,
       below-more _ _ (p .2)
-          (and-both
+          (and-make
           (passed (k .before .before .entry-ok .ensures) (k .before .if3 .left))
           (below-all _ _ _ (c .before .before .pairs .inv .1) (c .before .pairs-test .left) (c .before .before .pairs .inv .0))),
       noted-more (p .3) l o r,
@@ -126,7 +127,7 @@ tasks-again c =
     let p = c .before .entries .inv in
     let e : c .before .entries .i ≡ place (m (k .before .before .before .before .before)) (k .before .before .before .before .before .tasks .t) .count = omega arith in (
       omega arith,
-      below-more _ _ (k .before .before .before .before .before .tasks .inv .1) (and-both (row-good k) (below-all _ _ _ (p .2) (c .entries-test .left) (p .0))),
+      below-more _ _ (k .before .before .before .before .before .tasks .inv .1) (and-make (row-good k) (below-all _ _ _ (p .2) (c .entries-test .left) (p .0))),
       p .3 .seen-size,
       p .3 .last-size,
       vouched-next _ _ (rw e at (p .4)),
