@@ -21,14 +21,14 @@ const FIRST_RELEASING: u32 = 6;
 const LAST_PHASE: u32 = 8;
 
 // From the low number to the high one, both included.
-fn in_range(low: usize, high: usize, n: usize) -> bool
+pub fn in_range(low: usize, high: usize, n: usize) -> bool
     ensures { λ r. ⌜ r ≡ within low high n ⌝ }
 {
     low <= n && n <= high
 }
 
 // Each size is in its range.
-fn sizes_ok(sizes: Sizes) -> bool
+pub fn sizes_ok(sizes: Sizes) -> bool
     ensures { λ r. ⌜ r ≡ sizesOk sizes ⌝ }
 {
     in_range(1, memory::MOST_WORDS, sizes.words)
@@ -37,7 +37,7 @@ fn sizes_ok(sizes: Sizes) -> bool
 }
 
 // The lent lengths are exactly what the sizes ask.
-fn lengths_ok(
+pub fn lengths_ok(
     sizes: Sizes,
     words: &[u32],
     records: &[u32],

@@ -1,0 +1,82 @@
+// Opening: every word and every entry place becomes 0, every record the first version, and every task Idle.
+ghost use mathlib.Core.Path.{_≡_};
+ghost use mathlib.Core.List.{[], _∷_};
+ghost use lib.ListN.{length, replicate};
+ghost use Rattle.memory.specs.Pieces.{memory};
+ghost use Rattle.memory.specs.Numbers.{replied};
+ghost use Rattle.memory.specs.Requests.{openBoard};
+use memory::Answer;
+use memory::Sizes;
+
+// Every number becomes one number.
+fn fill_numbers(table: &mut [u32], number: u32)
+    ensures { λ r. ⌜ now (table .exit) ≡ replicate (length (now (table .entry))) number ⌝ }
+{
+    let mut i = 0;
+    while i < table.len() {
+        table[i] = number;
+        i += 1;
+    }
+}
+
+// Every task becomes Idle, with no entries.
+fn fill_places(places: &mut [[u32; 3]])
+    ensures { λ r. ⌜ now (places .exit) ≡ replicate (length (now (places .entry))) (0 ∷ 0 ∷ 0 ∷ []) ⌝ }
+{
+    let mut i = 0;
+    while i < places.len() {
+        places[i] = [0, 0, 0];
+        i += 1;
+    }
+}
+
+// Every entry place becomes 0.
+fn fill_entries(entries: &mut [[u32; 5]])
+    ensures { λ r. ⌜ now (entries .exit) ≡ replicate (length (now (entries .entry))) (0 ∷ 0 ∷ 0 ∷ 0 ∷ 0 ∷ []) ⌝ }
+{
+    let mut i = 0;
+    while i < entries.len() {
+        entries[i] = [0, 0, 0, 0, 0];
+        i += 1;
+    }
+}
+
+// It looks only at the sizes and the first version, which are refused with 2, and at the lent lengths, which are refused with 1.
+pub fn open_board(
+    sizes: Sizes,
+    first: u32,
+    words: &mut [u32],
+    records: &mut [u32],
+    places: &mut [[u32; 3]],
+    entries: &mut [[u32; 5]],
+) -> Answer
+    ensures { λ r. ⌜ replied r (memory (now (words .exit)) (now (records .exit)) (now (places .exit)) (now (entries .exit)))
+        ≡ openBoard sizes first (memory (now (words .entry)) (now (records .entry)) (now (places .entry)) (now (entries .entry))) ⌝ }
+{
+    if !sound::sizes_ok(sizes) {
+        return Answer {
+            number: 2,
+            value: 0,
+        };
+    }
+    if !sound::in_range(1, memory::TOP_VERSION as usize, first as usize) {
+        return Answer {
+            number: 2,
+            value: 0,
+        };
+    }
+    if !sound::lengths_ok(sizes, words, records, places, entries) {
+        return Answer {
+            number: 1,
+            value: 0,
+        };
+    }
+    fill_numbers(words, 0);
+    fill_numbers(records, first);
+    fill_places(places);
+    fill_entries(entries);
+    Answer {
+        number: 0,
+        value: 0,
+    }
+}
