@@ -1,0 +1,191 @@
+-- Session file: how a record is split off the bytes that are left, and the whole session as its records.
+pub use Rattle.session.specs.declared.Kind.{Kind}
+pub use Rattle.session.specs.declared.Kind.the-variants.{Open, Start, Commit, Abort, Wait, Step, Read, Write}
+pub use Rattle.session.specs.declared.Marked.{Marked}
+pub use Rattle.session.specs.declared.Marked.the-variants.{Known, Unknown}
+pub use Rattle.session.specs.declared.Split.{Split}
+pub use Rattle.session.specs.declared.Split.the-variants.{Record, Refused, End}
+use Prim.Native.Nat.{ℕ, zero, suc, _+_, _*_}
+use mathlib.Core.Path.{_≡_}
+use mathlib.Core.List.{List, [], _∷_, _++_}
+use mathlib.Core.Bool.{Bool, true, false, not, _&&_}
+use lib.ListN.{length, getD, take, drop}
+use lib.Dec.{ltb, eqb}
+use Rattle.memory.specs.Pieces.{if_then_else_}
+
+-- "At most 60,000 bytes."
+abbrev pub mostBytes : ℕ
+mostBytes = 60000
+
+-- "Before each record stands a two-byte ASCII mark": BD, ST, CM, AB, WT, SP, RD, WR.
+abbrev pub mark : Kind → List ℕ
+mark Open = 66 ∷ 68 ∷ []
+mark Start = 83 ∷ 84 ∷ []
+mark Commit = 67 ∷ 77 ∷ []
+mark Abort = 65 ∷ 66 ∷ []
+mark Wait = 87 ∷ 84 ∷ []
+mark Step = 83 ∷ 80 ∷ []
+mark Read = 82 ∷ 68 ∷ []
+mark Write = 87 ∷ 82 ∷ []
+
+-- "numbers are little-endian": the first byte counts once, and what follows it 256 times.
+unfoldable pub littleEndian : List ℕ → ℕ
+littleEndian [] = 0
+littleEndian (b ∷ bs) = b + 256 * littleEndian bs
+
+-- the number of so many bytes at a place of a body; what is not there counts 0
+unfoldable pub numberAt : ℕ → ℕ → List ℕ → ℕ
+numberAt width at bytes = littleEndian (take width (drop at bytes))
+
+-- "BD (open): words 2 bytes, records 2, tasks 1, first version 4."
+abbrev pub words : List ℕ → ℕ
+words b = numberAt 2 0 b
+
+abbrev pub records : List ℕ → ℕ
+records b = numberAt 2 2 b
+
+abbrev pub tasks : List ℕ → ℕ
+tasks b = numberAt 1 4 b
+
+abbrev pub firstVersion : List ℕ → ℕ
+firstVersion b = numberAt 4 5 b
+
+-- "ST, CM, AB, WT, SP: task 1 byte. RD: task 1, address 2. WR: task 1, address 2, value 4."
+abbrev pub task : List ℕ → ℕ
+task b = numberAt 1 0 b
+
+abbrev pub address : List ℕ → ℕ
+address b = numberAt 2 1 b
+
+abbrev pub value : List ℕ → ℕ
+value b = numberAt 4 3 b
+
+-- the bytes that these numbers take
+abbrev pub bodyLength : Kind → ℕ
+bodyLength Open = 9
+bodyLength Start = 1
+bodyLength Commit = 1
+bodyLength Abort = 1
+bodyLength Wait = 1
+bodyLength Step = 1
+bodyLength Read = 3
+bodyLength Write = 7
+
+abbrev pub recordLength : Kind → ℕ
+recordLength k = 2 + bodyLength k
+
+-- "Splitting a record off answers its body as that part of the session's own bytes, and the next record is read from the part that
+-- follows."
+unfoldable pub body : Kind → List ℕ → List ℕ
+body k bytes = take (bodyLength k) (drop 2 bytes)
+
+unfoldable pub following : Kind → List ℕ → List ℕ
+following k bytes = drop (recordLength k) bytes
+
+-- the kind whose mark the bytes begin with
+unfoldable pub begins : List ℕ → List ℕ → Bool
+begins bytes m = not (ltb (length bytes) 2) && (eqb (getD bytes 0 0) (getD m 0 0) && eqb (getD bytes 1 0) (getD m 1 0))
+
+abbrev pub kinds : List Kind
+kinds = Open ∷ Start ∷ Commit ∷ Abort ∷ Wait ∷ Step ∷ Read ∷ Write ∷ []
+
+unfoldable pub kindAmong : List Kind → List ℕ → Marked
+kindAmong [] bytes = Unknown
+kindAmong (k ∷ ks) bytes = if begins bytes (mark k) then Known k else kindAmong ks bytes
+
+unfoldable pub kindAt : List ℕ → Marked
+kindAt bytes = kindAmong kinds bytes
+
+-- "A record that cannot be split off is refused before anything in it is used. Order: 11 one byte left where a mark should stand; 10
+-- unknown mark; 12 first record not BD, or a later BD; 11 body cut short."
+abbrev pub opens : Kind → Bool
+opens Open = true
+opens Start = false
+opens Commit = false
+opens Abort = false
+opens Wait = false
+opens Step = false
+opens Read = false
+opens Write = false
+
+abbrev pub misplaced : Bool → Kind → Bool
+misplaced first k = if opens k then not first else first
+
+unfoldable pub placed : Bool → ℕ → Kind → Split
+placed first n k =
+    if misplaced first k then Refused 12 else
+    if ltb n (recordLength k) then Refused 11 else
+    Record k
+
+abbrev pub marked : Bool → ℕ → Marked → Split
+marked first n Unknown = Refused 10
+marked first n (Known k) = placed first n k
+
+-- "Longer than 60,000 bytes is 14 at record 0": what is left at the first record is the whole session.
+abbrev pub tooLong : Bool → ℕ → Bool
+tooLong first n = first && ltb mostBytes n
+
+-- "An empty file is 11 at record 0." After at least one record, the end of the file ends the session.
+abbrev pub over : Bool → ℕ → Bool
+over first n = not first && eqb n 0
+
+-- a record split off what is left of a session
+unfoldable pub split : Bool → List ℕ → Split
+split first bytes =
+    if tooLong first (length bytes) then Refused 14 else
+    if over first (length bytes) then End else
+    if ltb (length bytes) 2 then Refused 11 else
+    marked first (length bytes) (kindAt bytes)
+
+-- The whole session ----------------------------------------------------------------------------------------------------------------
+
+-- a record: its kind and its body
+pub record Piece : Type 0 where
+  pub kind : Kind
+  pub body : List ℕ
+
+abbrev pub piece : Kind → List ℕ → Piece
+piece k b = record { kind = k; body = b }
+
+-- a session: its records, how it ended after them, and the bytes that are left there
+pub record Session : Type 0 where
+  pub pieces : List Piece
+  pub ended : Split
+  pub left : List ℕ
+
+abbrev pub ending : Split → List ℕ → Session
+ending s bytes = record { pieces = []; ended = s; left = bytes }
+
+abbrev pub before : Piece → Session → Session
+before p s = record { pieces = p ∷ s .pieces; ended = s .ended; left = s .left }
+
+abbrev pub onward : List ℕ → Split → (Kind → Session) → Session
+onward bytes (Record k) rest = before (piece k (body k bytes)) (rest k)
+onward bytes (Refused n) rest = ending (Refused n) bytes
+onward bytes End rest = ending End bytes
+
+-- at most so many records
+unfoldable pub splitAll : ℕ → Bool → List ℕ → Session
+splitAll zero first bytes = ending (split first bytes) bytes
+splitAll (suc n) first bytes = onward bytes (split first bytes) (λ k. splitAll n false (following k bytes))
+
+-- a session has fewer records than bytes
+unfoldable pub session : List ℕ → Session
+session bytes = splitAll (length bytes) true bytes
+
+-- What is promised -------------------------------------------------------------------------------------------------------------------
+
+abbrev pub encoded : List Piece → List ℕ
+encoded [] = []
+encoded (p ∷ ps) = (mark (p .kind) ++ p .body) ++ encoded ps
+
+-- a session that was split is its bytes again: the marks and bodies of its records, and what is left
+abbrev pub SplitKeepsTheBytes : Type 0
+SplitKeepsTheBytes = (bytes : List ℕ) → encoded (session bytes .pieces) ++ session bytes .left ≡ bytes
+
+-- a session is split until a record is refused or nothing is left
+abbrev pub SplitsToTheEnd : Type 0
+SplitsToTheEnd =
+    (bytes : List ℕ)
+    → ((k : Kind) → session bytes .ended ≡ Record k → ⊥)
+    × (session bytes .ended ≡ End → session bytes .left ≡ [])

@@ -1,0 +1,233 @@
+// A session file, split into its records: the kind of each by its mark, its body as that part of the session's own bytes, and the
+// numbers in a body.
+ghost use mathlib.Core.Path.{_≡_};
+ghost use Rattle.session.specs.Session as spec;
+
+// At most 60,000 bytes.
+pub const MOST_BYTES: usize = 60000;
+
+// Before each record stands a two-byte ASCII mark.
+pub const MARK_LENGTH: usize = 2;
+
+pub const OPEN_MARK: [u8; 2] = [b'B', b'D'];
+
+pub const START_MARK: [u8; 2] = [b'S', b'T'];
+
+pub const COMMIT_MARK: [u8; 2] = [b'C', b'M'];
+
+pub const ABORT_MARK: [u8; 2] = [b'A', b'B'];
+
+pub const WAIT_MARK: [u8; 2] = [b'W', b'T'];
+
+pub const STEP_MARK: [u8; 2] = [b'S', b'P'];
+
+pub const READ_MARK: [u8; 2] = [b'R', b'D'];
+
+pub const WRITE_MARK: [u8; 2] = [b'W', b'R'];
+
+// The numbers that refuse a record.
+pub const UNKNOWN_MARK: u32 = 10;
+
+pub const CUT_SHORT: u32 = 11;
+
+pub const MISPLACED: u32 = 12;
+
+pub const TOO_LONG: u32 = 14;
+
+// What a record asks for, by its mark.
+pub enum Kind {
+    Open,
+    Start,
+    Commit,
+    Abort,
+    Wait,
+    Step,
+    Read,
+    Write,
+}
+
+// What the two bytes where a mark should stand are.
+pub enum Marked {
+    Known(Kind),
+    Unknown,
+}
+
+// What splitting a record off answers: its kind, the number that refuses it, or that the session ends here.
+pub enum Split {
+    Record(Kind),
+    Refused(u32),
+    End,
+}
+
+// The bytes begin with a mark. The caller has seen that there are two.
+fn has_mark(rest: &[u8], mark: [u8; 2]) -> bool
+    ensures { λ r. ⌜ r ≡ spec.begins (now (rest .entry)) mark ⌝ }
+{
+    if rest.len() < MARK_LENGTH {
+        return false;
+    }
+    if rest[0] == mark[0] {
+        rest[1] == mark[1]
+    } else {
+        false
+    }
+}
+
+// The kind whose mark the bytes begin with.
+pub fn kind_at(rest: &[u8]) -> Marked
+    ensures { λ r. ⌜ r ≡ spec.kindAt (now (rest .entry)) ⌝ }
+{
+    if has_mark(rest, OPEN_MARK) {
+        return Marked::Known(Kind::Open);
+    }
+    if has_mark(rest, START_MARK) {
+        return Marked::Known(Kind::Start);
+    }
+    if has_mark(rest, COMMIT_MARK) {
+        return Marked::Known(Kind::Commit);
+    }
+    if has_mark(rest, ABORT_MARK) {
+        return Marked::Known(Kind::Abort);
+    }
+    if has_mark(rest, WAIT_MARK) {
+        return Marked::Known(Kind::Wait);
+    }
+    if has_mark(rest, STEP_MARK) {
+        return Marked::Known(Kind::Step);
+    }
+    if has_mark(rest, READ_MARK) {
+        return Marked::Known(Kind::Read);
+    }
+    if has_mark(rest, WRITE_MARK) {
+        return Marked::Known(Kind::Write);
+    }
+    Marked::Unknown
+}
+
+// How many bytes a body has.
+pub fn body_length(kind: Kind) -> usize
+    ensures { λ r. ⌜ r ≡ spec.bodyLength kind ⌝ }
+{
+    match kind {
+        Kind::Open => 9,
+        Kind::Start => 1,
+        Kind::Commit => 1,
+        Kind::Abort => 1,
+        Kind::Wait => 1,
+        Kind::Step => 1,
+        Kind::Read => 3,
+        Kind::Write => 7,
+    }
+}
+
+// How many bytes a record has, its mark among them: the next record is read from the part that begins there.
+pub fn record_length(kind: Kind) -> usize
+    ensures { λ r. ⌜ r ≡ spec.recordLength kind ⌝ }
+{
+    MARK_LENGTH + body_length(kind)
+}
+
+fn opens(kind: Kind) -> bool
+    ensures { λ r. ⌜ r ≡ spec.opens kind ⌝ }
+{
+    match kind {
+        Kind::Open => true,
+        Kind::Start => false,
+        Kind::Commit => false,
+        Kind::Abort => false,
+        Kind::Wait => false,
+        Kind::Step => false,
+        Kind::Read => false,
+        Kind::Write => false,
+    }
+}
+
+// The first record is no opening, or a later one is.
+fn is_misplaced(first: bool, kind: Kind) -> bool
+    ensures { λ r. ⌜ r ≡ spec.misplaced first kind ⌝ }
+{
+    if opens(kind) { !first } else { first }
+}
+
+// A record with a known mark, in a rest of so many bytes.
+fn placed(length: usize, first: bool, kind: Kind) -> Split
+    ensures { λ r. ⌜ r ≡ spec.placed first length kind ⌝ }
+{
+    if is_misplaced(first, kind) {
+        return Split::Refused(MISPLACED);
+    }
+    if length < record_length(kind) {
+        return Split::Refused(CUT_SHORT);
+    }
+    Split::Record(kind)
+}
+
+fn is_too_long(first: bool, length: usize) -> bool
+    ensures { λ r. ⌜ r ≡ spec.tooLong first length ⌝ }
+{
+    if first { MOST_BYTES < length } else { false }
+}
+
+fn is_over(first: bool, length: usize) -> bool
+    ensures { λ r. ⌜ r ≡ spec.over first length ⌝ }
+{
+    if first { false } else { length == 0 }
+}
+
+// Splits a record off what is left of a session. At the first record that is the whole session.
+pub fn split_off(rest: &[u8], first: bool) -> Split
+    ensures { λ r. ⌜ r ≡ spec.split first (now (rest .entry)) ⌝ }
+{
+    if is_too_long(first, rest.len()) {
+        return Split::Refused(TOO_LONG);
+    }
+    if is_over(first, rest.len()) {
+        return Split::End;
+    }
+    if rest.len() < MARK_LENGTH {
+        return Split::Refused(CUT_SHORT);
+    }
+    let Marked::Known(kind) = kind_at(rest) else {
+        return Split::Refused(UNKNOWN_MARK);
+    };
+    placed(rest.len(), first, kind)
+}
+
+// A record's body as that part of the session's own bytes, beginning after the mark; where the session is cut short, what there is.
+pub fn body(rest: &[u8], kind: Kind) -> &[u8]
+    ensures { λ r. ⌜ now r ≡ spec.body kind (now (rest .entry)) ⌝ }
+{
+    if rest.len() < MARK_LENGTH {
+        return &rest[..0];
+    }
+    let end = record_length(kind);
+    if rest.len() < end {
+        return &rest[MARK_LENGTH..];
+    }
+    &rest[MARK_LENGTH..end]
+}
+
+// The number of one byte, of two and of four at a place of a body. What is not there counts 0.
+pub fn byte_at(body: &[u8], at: usize) -> u8
+    ensures { λ r. ⌜ r ≡ spec.numberAt 1 at (now (body .entry)) ⌝ }
+{
+    if at < body.len() { body[at] } else { 0 }
+}
+
+pub fn two_at(body: &[u8], at: usize) -> u16
+    ensures { λ r. ⌜ r ≡ spec.numberAt 2 at (now (body .entry)) ⌝ }
+{
+    if body.len() <= at {
+        return 0;
+    }
+    byte_at(body, at) as u16 + 256 * byte_at(body, at + 1) as u16
+}
+
+pub fn four_at(body: &[u8], at: usize) -> u32
+    ensures { λ r. ⌜ r ≡ spec.numberAt 4 at (now (body .entry)) ⌝ }
+{
+    if body.len() <= at {
+        return 0;
+    }
+    two_at(body, at) as u32 + 65536 * two_at(body, at + 2) as u32
+}

@@ -1,0 +1,2 @@
+-- What the proofs of several functions use, here and in the crates above.
+pub mod Laws
