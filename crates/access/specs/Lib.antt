@@ -1,0 +1,2 @@
+-- What the functions of an access are held to.
+pub mod Contract

@@ -1,0 +1,2 @@
+-- What the functions over a descriptor are held to.
+pub mod Contract
