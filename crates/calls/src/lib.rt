@@ -1,0 +1,200 @@
+// The public calls: each asks first whether the table is sound, and has no `requires`.
+// What it answers and what every lent place holds afterwards is what document 01 says, in one equation.
+ghost use mathlib.Core.Path.{_≡_};
+ghost use Rattle.memory.specs.Pieces.{memory};
+ghost use Rattle.memory.specs.Numbers.{replied};
+ghost use Rattle.memory.specs.Requests as spec;
+ghost use Rattle.memory.specs.Step.{step};
+use memory::Answer;
+use memory::Looked;
+use memory::Sizes;
+
+// 1: the table is unsound.
+const UNSOUND: u32 = 1;
+// 5: the address is not below the number of words.
+const NO_ADDRESS: u32 = 5;
+
+fn refused(number: u32) -> Answer
+    ensures { λ r. ⌜ r ≡ record { number = number; value = 0 } ⌝ }
+{
+    Answer { number, value: 0 }
+}
+
+// Opening: every word becomes 0, every record the first version, every task Idle.
+pub fn open_board(
+    sizes: Sizes,
+    first: u32,
+    words: &mut [u32],
+    records: &mut [u32],
+    places: &mut [[u32; 3]],
+    entries: &mut [[u32; 5]],
+) -> Answer
+    ensures { λ r. ⌜ replied r (memory (now (words .exit)) (now (records .exit)) (now (places .exit)) (now (entries .exit)))
+        ≡ spec.openBoard sizes first (memory (now (words .entry)) (now (records .entry)) (now (places .entry)) (now (entries .entry))) ⌝ }
+{
+    opening::open_board(sizes, first, words, records, places, entries)
+}
+
+// Start: Idle to Open, no entries.
+pub fn start(
+    sizes: Sizes,
+    words: &[u32],
+    records: &[u32],
+    places: &mut [[u32; 3]],
+    entries: &[[u32; 5]],
+    task: usize,
+) -> Answer
+    ensures { λ r. ⌜ replied r (memory (now (words .entry)) (now (records .entry)) (now (places .exit)) (now (entries .entry)))
+        ≡ spec.start sizes (memory (now (words .entry)) (now (records .entry)) (now (places .entry)) (now (entries .entry))) task ⌝ }
+{
+    if !sound::is_sound(sizes, words, records, places, entries) {
+        return refused(UNSOUND);
+    }
+    requests::start_sound(sizes, words, records, places, entries, task)
+}
+
+// Abort: Open to Idle, entries dropped.
+pub fn abort(
+    sizes: Sizes,
+    words: &[u32],
+    records: &[u32],
+    places: &mut [[u32; 3]],
+    entries: &[[u32; 5]],
+    task: usize,
+) -> Answer
+    ensures { λ r. ⌜ replied r (memory (now (words .entry)) (now (records .entry)) (now (places .exit)) (now (entries .entry)))
+        ≡ spec.abort sizes (memory (now (words .entry)) (now (records .entry)) (now (places .entry)) (now (entries .entry))) task ⌝ }
+{
+    if !sound::is_sound(sizes, words, records, places, entries) {
+        return refused(UNSOUND);
+    }
+    requests::abort_sound(sizes, words, records, places, entries, task)
+}
+
+// Commit: Open to Taking (commit) at 0. No entries is allowed.
+pub fn commit(
+    sizes: Sizes,
+    words: &[u32],
+    records: &[u32],
+    places: &mut [[u32; 3]],
+    entries: &[[u32; 5]],
+    task: usize,
+) -> Answer
+    ensures { λ r. ⌜ replied r (memory (now (words .entry)) (now (records .entry)) (now (places .exit)) (now (entries .entry)))
+        ≡ spec.commit sizes (memory (now (words .entry)) (now (records .entry)) (now (places .entry)) (now (entries .entry))) task ⌝ }
+{
+    if !sound::is_sound(sizes, words, records, places, entries) {
+        return refused(UNSOUND);
+    }
+    requests::commit_sound(sizes, words, records, places, entries, task)
+}
+
+// Wait: Open to Taking (sleep) at 0.
+pub fn wait(
+    sizes: Sizes,
+    words: &[u32],
+    records: &[u32],
+    places: &mut [[u32; 3]],
+    entries: &[[u32; 5]],
+    task: usize,
+) -> Answer
+    ensures { λ r. ⌜ replied r (memory (now (words .entry)) (now (records .entry)) (now (places .exit)) (now (entries .entry)))
+        ≡ spec.wait sizes (memory (now (words .entry)) (now (records .entry)) (now (places .entry)) (now (entries .entry))) task ⌝ }
+{
+    if !sound::is_sound(sizes, words, records, places, entries) {
+        return refused(UNSOUND);
+    }
+    requests::wait_sound(sizes, words, records, places, entries, task)
+}
+
+// Read: the value that the transaction finds at an address.
+pub fn read(
+    sizes: Sizes,
+    words: &[u32],
+    records: &[u32],
+    places: &mut [[u32; 3]],
+    entries: &mut [[u32; 5]],
+    task: usize,
+    address: usize,
+) -> Answer
+    ensures { λ r. ⌜ replied r (memory (now (words .entry)) (now (records .entry)) (now (places .exit)) (now (entries .exit)))
+        ≡ spec.read sizes (memory (now (words .entry)) (now (records .entry)) (now (places .entry)) (now (entries .entry))) task address ⌝ }
+{
+    if !sound::is_sound(sizes, words, records, places, entries) {
+        return refused(UNSOUND);
+    }
+    requests::read_sound(sizes, words, records, places, entries, task, address)
+}
+
+// Write: the value that the transaction leaves at an address.
+pub fn write(
+    sizes: Sizes,
+    words: &[u32],
+    records: &[u32],
+    places: &mut [[u32; 3]],
+    entries: &mut [[u32; 5]],
+    task: usize,
+    address: usize,
+    value: u32,
+) -> Answer
+    ensures { λ r. ⌜ replied r (memory (now (words .entry)) (now (records .entry)) (now (places .exit)) (now (entries .exit)))
+        ≡ spec.write sizes (memory (now (words .entry)) (now (records .entry)) (now (places .entry)) (now (entries .entry))) task address value ⌝ }
+{
+    if !sound::is_sound(sizes, words, records, places, entries) {
+        return refused(UNSOUND);
+    }
+    requests::write_sound(sizes, words, records, places, entries, task, address, value)
+}
+
+// Step: one step of a task that takes, writes, releases or sleeps.
+pub fn step(
+    sizes: Sizes,
+    words: &mut [u32],
+    records: &mut [u32],
+    places: &mut [[u32; 3]],
+    entries: &[[u32; 5]],
+    task: usize,
+) -> Answer
+    ensures { λ r. ⌜ replied r (memory (now (words .exit)) (now (records .exit)) (now (places .exit)) (now (entries .entry)))
+        ≡ step sizes (memory (now (words .entry)) (now (records .entry)) (now (places .entry)) (now (entries .entry))) task ⌝ }
+{
+    if !sound::is_sound(sizes, words, records, places, entries) {
+        return refused(UNSOUND);
+    }
+    steps::step_sound(sizes, words, records, places, entries, task)
+}
+
+// The look-up: the logical value and version of an address. It changes nothing.
+pub fn look(
+    sizes: Sizes,
+    words: &[u32],
+    records: &[u32],
+    places: &[[u32; 3]],
+    entries: &[[u32; 5]],
+    address: usize,
+) -> Looked
+    ensures { λ r. ⌜ r ≡ spec.look sizes (memory (now (words .entry)) (now (records .entry)) (now (places .entry)) (now (entries .entry))) address ⌝ }
+{
+    if !sound::is_sound(sizes, words, records, places, entries) {
+        return unseen(UNSOUND);
+    }
+    if sizes.words <= address {
+        return unseen(NO_ADDRESS);
+    }
+    let seen = lookup::logical(sizes, words, records, places, entries, address);
+    Looked {
+        number: 0,
+        value: seen.value,
+        version: seen.version,
+    }
+}
+
+fn unseen(number: u32) -> Looked
+    ensures { λ r. ⌜ r ≡ record { number = number; value = 0; version = 0 } ⌝ }
+{
+    Looked {
+        number,
+        value: 0,
+        version: 0,
+    }
+}
