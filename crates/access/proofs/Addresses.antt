@@ -32,9 +32,9 @@ use Rattle.access.specs.Contract.{foundAt, entryFor, entryBeside, overta
 
 -- A new address by the entry beside it ------------------------------------------------------------------------------------------------
 
-by-test : (b : Bool) (s : Seen) (e : Entry) → (b && not (eqb (s .version) (e .old .version))) ≡ overtakenBy s (if b then First e else Nothing)
-by-test true s e = refl
-by-test false s e = refl
+by-test : (b : Bool) (v : ℕ) (e : Entry) → (b && not (eqb v (e .old .version))) ≡ overtakenBy v (if b then First e else Nothing)
+by-test true v e = refl
+by-test false v e = refl
 
 made-by : (b : Bool) (a : ℕ) (s : Seen) (e : Entry)
     → record { address = a; old = s; new = record { value = s .value; version = if b then e .new .version else s .version } } ≡ freshBeside a s (if b then First e else Nothing)
@@ -48,16 +48,16 @@ module _ (z : Sizes) (m : Memory) (t a : ℕ) where
   abbrev at : ℕ
   at = indexOn (z .records) (a % z .records) es
 
-  overtaken-beside : overtaken z m t a ≡ overtakenBy (logical z m a) (entryBeside (z .records) a es)
+  overtaken-beside : overtaken z m t a ≡ overtakenBy (logical z m a .version) (entryBeside (z .records) a es)
   unfolding overtaken foundAt
-  overtaken-beside = by-test (ltb at (length es)) (logical z m a) (getD es at blank)
+  overtaken-beside = by-test (ltb at (length es)) (logical z m a .version) (getD es at blank)
 
   fresh-beside : fresh z m t a ≡ freshBeside a (logical z m a) (entryBeside (z .records) a es)
   unfolding fresh foundAt
   fresh-beside = made-by (ltb at (length es)) a (logical z m a) (getD es at blank)
 
   module _ (n : ℕ) (here : place m t .count ≡ n) (s : Seen) (seen : s ≡ logical z m a) (b : Found) (beside : b ≡ entryBeside (z .records) a (run z m t n)) where
-    pub overtaken-by : overtakenBy s b ≡ overtaken z m t a
+    pub overtaken-by : overtakenBy (s .version) b ≡ overtaken z m t a
     overtaken-by = cc overtaken-beside
 
     pub fresh-by : freshBeside a s b ≡ fresh z m t a

@@ -32,9 +32,9 @@ entryBeside n a es = foundAt (indexOn n (a % n) es) es
 
 -- A new address ------------------------------------------------------------------------------------------------------------------
 
-abbrev pub overtakenBy : Seen → Found → Bool
-overtakenBy s Nothing = false
-overtakenBy s (First e) = not (eqb (s .version) (e .old .version))
+abbrev pub overtakenBy : ℕ → Found → Bool
+overtakenBy v Nothing = false
+overtakenBy v (First e) = not (eqb v (e .old .version))
 
 abbrev pub versionBeside : Seen → Found → ℕ
 versionBeside s Nothing = s .version

@@ -62,14 +62,14 @@ fn entry_beside(
 }
 
 // Overtaken: the logical version of a new address differs from the old version of the task's entries on the record.
-fn is_overtaken(seen: Seen, beside: Found) -> bool
-    ensures { λ r. ⌜ r ≡ overtakenBy seen beside ⌝ }
+fn is_overtaken(version: u32, beside: Found) -> bool
+    ensures { λ r. ⌜ r ≡ overtakenBy version beside ⌝ }
 {
     match beside {
         Found::Nothing => false,
         Found::First(entry) => {
             let old = entry.old;
-            seen.version != old.version
+            version != old.version
         }
     }
 }
@@ -125,7 +125,7 @@ fn new_address(
     let seen = lookup::logical(sizes, words, records, places, entries, address);
     let beside = entry_beside(sizes, entries, task, count, address);
     let full = memory::MOST_ENTRIES <= count;
-    let overtaken = is_overtaken(seen, beside);
+    let overtaken = is_overtaken(seen.version, beside);
     if full {
         return Access::Refused(6);
     }

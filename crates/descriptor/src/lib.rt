@@ -26,6 +26,7 @@ pub enum Permit {
     Granted(Place),
 }
 
+// Whether a task in this phase may ask.
 fn allows(needs: Needs, phase: Phase) -> bool
     ensures { λ r. ⌜ r ≡ allowedBy needs phase ⌝ }
 {
@@ -86,6 +87,7 @@ pub fn put_entry(run: &mut [[u32; 5]], i: usize, entry: Entry)
     run[i] = row;
 }
 
+// The one number where the test holds, else the other.
 fn pick(test: bool, this: u32, other: u32) -> u32
     ensures { λ r. ⌜ r ≡ (if test then this else other) ⌝ }
 {
