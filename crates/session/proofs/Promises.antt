@@ -7,7 +7,7 @@ use lib.ListN.{length, take, length-drop, take-append-drop}
 use lib.Seq.{drop-drop}
 use native.Mathlib.Omega.{arith}
 use Rattle.session.specs.Session.{Kind, Record, Refused, End, mark, body, bodyLength, recordLength, following, Session, encoded, onward, splitAll, session, SplitKeepsTheBytes, SplitsToTheEnd}
-use Rattle.session.proofs.Cases.{split-cases}
+use Rattle.session.proofs.Cases.{split-cases, refused-apart, end-apart}
 
 -- a record's mark and body, and what follows it
 one-record : (k : Kind) (bytes : List ℕ) → take 2 bytes ≡ mark k → (mark k ++ body k bytes) ++ following k bytes ≡ bytes
@@ -26,8 +26,8 @@ all-kept (suc n) first bytes =
     split-cases first bytes
     (λ s. encoded (onward bytes s (later n bytes) .pieces) ++ onward bytes s (later n bytes) .left ≡ bytes)
     (λ r. refl)
-    (λ none. refl)
-    (λ k there right whole. append-assoc (mark k ++ body k bytes) _ _ ∙ rw (all-kept n false (following k bytes)) (one-record k bytes there))
+    (λ later none. refl)
+    (λ k is-there. append-assoc (mark k ++ body k bytes) _ _ ∙ rw (all-kept n false (following k bytes)) (one-record k bytes (is-there .marks)))
 
 pub split-keeps-the-bytes : SplitKeepsTheBytes
 unfolding session
@@ -37,14 +37,8 @@ split-keeps-the-bytes bytes = all-kept (length bytes) true bytes
 abbrev Ended : Session → Type 0
 Ended s = ((k : Kind) → s .ended ≡ Record k → ⊥) × (s .ended ≡ End → s .left ≡ [])
 
-refused-apart : (r : ℕ) (k : Kind) → Refused r ≡ Record k → ⊥
-refused-apart r k e = let z : _≡_ {A = ℕ} 0 1 = cc in omega arith
-
 refused-no-end : (r : ℕ) → Refused r ≡ End → ⊥
 refused-no-end r e = let z : _≡_ {A = ℕ} 0 1 = cc in omega arith
-
-end-apart : (k : Kind) → End ≡ Record k → ⊥
-end-apart k e = let z : _≡_ {A = ℕ} 0 1 = cc in omega arith
 
 shorter : (n : ℕ) (k : Kind) (bytes : List ℕ) → length bytes ≤ suc n → recordLength k ≤ length bytes → length (following k bytes) ≤ n
 unfolding following
@@ -55,13 +49,13 @@ unfolding splitAll
 all-split zero first bytes h =
     split-cases first bytes (λ s. ((k : Kind) → s ≡ Record k → ⊥) × (s ≡ End → bytes ≡ []))
     (λ r. (λ k. refused-apart r k, λ e. absurd (refused-no-end r e)))
-    (λ none. (λ k. end-apart k, λ e. none))
-    (λ k there right whole. absurd (omega arith))
+    (λ later none. (λ k. end-apart k, λ e. none))
+    (λ k is-there. absurd (omega (arith, is-there .whole)))
 all-split (suc n) first bytes h =
     split-cases first bytes (λ s. Ended (onward bytes s (later n bytes)))
     (λ r. (λ k. refused-apart r k, λ e. absurd (refused-no-end r e)))
-    (λ none. (λ k. end-apart k, λ e. none))
-    (λ k there right whole. all-split n false (following k bytes) (shorter n k bytes h whole))
+    (λ later none. (λ k. end-apart k, λ e. none))
+    (λ k is-there. all-split n false (following k bytes) (shorter n k bytes h (is-there .whole)))
 
 pub splits-to-the-end : SplitsToTheEnd
 unfolding session

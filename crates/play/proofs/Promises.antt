@@ -1,0 +1,18 @@
+-- The promises of specs/Claims.antt, kept.
+use mathlib.Core.Path.{_≡_, sym, ap, _∙_}
+use mathlib.Core.Bool.{true}
+use Rattle.memory.specs.Sound.{sound}
+use Rattle.memory.proofs.Promises.{reached-is-sound}
+use Rattle.play.specs.Play.{sizesAsked, firstAsked, lent}
+use Rattle.play.specs.Claims.{ran, PlayedIsReached, WordLinesAreTheBoard}
+use Rattle.play.proofs.Reaches.{played}
+use Rattle.play.proofs.Shows.{shows}
+
+pub played-is-reached : PlayedIsReached
+played-is-reached = played
+
+pub word-lines-are-the-board : WordLinesAreTheBoard
+word-lines-are-the-board bytes whole =
+    let r = played bytes whole in
+    let ok = reached-is-sound (sizesAsked bytes) (firstAsked bytes) (lent (sizesAsked bytes)) (r .opens) (r .events) in
+    shows (sizesAsked bytes) (firstAsked bytes) (ran bytes .board) (rw (r .sizes, r .memory) at ok)

@@ -1,0 +1,128 @@
+-- The board that a session leaves is reached after its opening by the calls of its other records.
+use Prim.Native.Nat.{ℕ, zero, suc}
+use mathlib.Core.Path.{_≡_, refl, sym, ap, _∙_}
+use mathlib.Core.List.{List, [], _∷_, _++_}
+use mathlib.Core.Bool.{Bool, true, false, false≢true}
+use lib.Dec.{eqb}
+use Rattle.memory.specs.declared.Sizes.{Sizes}
+use Rattle.memory.specs.Pieces.{if_then_else_, Memory}
+use Rattle.memory.specs.Numbers.{Reply, reply}
+use Rattle.memory.specs.Requests.{opened, openBoard}
+use Rattle.memory.specs.Calls.{Call, call}
+use Rattle.memory.specs.Calls.Call.{ST, CM, AB, WT, SP, RD, WR}
+use Rattle.memory.specs.History.{Event, Scene, Notes, scene, nothing, begun, asks, next, ran, reached}
+use Rattle.memory.specs.History.Event.{request, opening}
+use Rattle.memory.proofs.Tools.{if-cases}
+use Rattle.session.specs.declared.Kind.{Kind}
+use Rattle.session.specs.declared.Kind.the-variants.{Open, Start, Commit, Abort, Wait, Step, Read, Write}
+use Rattle.session.specs.declared.Split.{Split}
+use Rattle.session.specs.declared.Split.the-variants.{Record, Refused, End}
+use Rattle.session.specs.Session as file
+use Rattle.session.specs.Session.{Piece, Session, session}
+use Rattle.session.proofs.Cases.{session-cases}
+use Rattle.text.specs.Text.{line}
+use Rattle.play.specs.Claims.{Reached, PlayedIsReached}
+use Rattle.play.specs.Play.{sizesAsked, firstAsked, lent, Run, runs, after, over, run, requested, stops, runOn}
+use Rattle.play.proofs.Lent.{opening-cases, lent-serves}
+
+-- a record as an event of the history
+eventOf : Sizes → ℕ → Kind → List ℕ → Event
+eventOf z v Open b = opening z v
+eventOf z v Start b = request (ST (file.task b))
+eventOf z v Commit b = request (CM (file.task b))
+eventOf z v Abort b = request (AB (file.task b))
+eventOf z v Wait b = request (WT (file.task b))
+eventOf z v Step b = request (SP (file.task b))
+eventOf z v Read b = request (RD (file.task b) (file.address b))
+eventOf z v Write b = request (WR (file.task b) (file.address b) (file.value b))
+
+-- a scene on a board of these sizes and this first version
+record On (z : Sizes) (v : ℕ) (m : Memory) (s : Scene) : Type 0 where
+  sizes : s .sizes ≡ z
+  first : s .first ≡ v
+  memory : s .memory ≡ m
+
+module _ (z : Sizes) (v : ℕ) where
+  -- each record leads to such a scene again
+  asked-one : (m : Memory) (s : Scene) (c : Call) → On z v m s → On z v (call z m c .after) (next s (request c))
+  asked-one m s c on = record { sizes = on .sizes; first = on .first; memory = rw (on .sizes, on .memory) }
+
+  opened-one : (m : Memory) (s : Scene) → On z v m s → On z v (openBoard z v m .after) (next s (opening z v))
+  opened-one m s on =
+      if-cases (On z v (openBoard z v m .after)) (eqb (openBoard z v (s .memory) .number) 0) _ _
+      (λ done. record { sizes = refl; first = refl; memory = rw (on .memory) })
+      (λ refused. record { sizes = on .sizes; first = on .first; memory = rw (on .memory) })
+
+  after-one : (m : Memory) (s : Scene) (k : Kind) (b : List ℕ) → On z v m s → On z v (requested z v m k b .after) (next s (eventOf z v k b))
+  unfolding requested eventOf
+  after-one m s Open b on = opened-one m s on
+  after-one m s Start b on = asked-one m s _ on
+  after-one m s Commit b on = asked-one m s _ on
+  after-one m s Abort b on = asked-one m s _ on
+  after-one m s Wait b on = asked-one m s _ on
+  after-one m s Step b on = asked-one m s _ on
+  after-one m s Read b on = asked-one m s _ on
+  after-one m s Write b on = asked-one m s _ on
+
+  -- so do all of them, if none stops the player
+  record Leads (s : Scene) (m : Memory) : Type 0 where
+    events : List Event
+    on : On z v m (ran s events)
+
+  at-the-end : (i : ℕ) (m : Memory) (e : Split) (s : Scene) → On z v m s → over i m e .whole ≡ true → Leads s (over i m e .board)
+  at-the-end i m (Record k) s on w = record { events = []; on = on }
+  at-the-end i m (Refused n) s on w = record { events = []; on = on }
+  at-the-end i m End s on w = record { events = []; on = on }
+
+  after-all : (i : ℕ) (m : Memory) (ps : List Piece) (e : Split) (s : Scene) → On z v m s → run z v i m ps e .whole ≡ true → Leads s (run z v i m ps e .board)
+  unfolding run
+  after-all i m [] e s on w = at-the-end i m e s on w
+  after-all i m (p ∷ ps) e s on w =
+      let r = requested z v m (p .kind) (p .body) in
+      go (stops (r .number)) w (λ rest. after-all (suc i) (r .after) ps e _ (after-one m s (p .kind) (p .body) on) rest)
+    where
+      r : Reply
+      r = requested z v m (p .kind) (p .body)
+
+      one : Event
+      one = eventOf z v (p .kind) (p .body)
+
+      more : Run
+      more = run z v (suc i) (r .after) ps e
+
+      go : (b : Bool) → (if b then runs [] false (r .after) else more) .whole ≡ true → (more .whole ≡ true → Leads (next s one) (more .board))
+          → Leads s ((if b then runs [] false (r .after) else more) .board)
+      go true no-more leads = absurd (false≢true no-more)
+      go false rest leads = record { events = one ∷ leads rest .events; on = leads rest .on }
+
+  -- the opening answered 0, and the others follow
+  abbrev opens : Session → Reply → Run
+  opens rest r = if stops (r .number) then runs [] false (r .after) else run z v 1 (r .after) (rest .pieces) (rest .ended)
+
+  from-opening : (rest : Session) → opens rest (openBoard z v (lent z)) .whole ≡ true → Reached z v (opens rest (openBoard z v (lent z)) .board)
+  from-opening rest =
+      opening-cases z v (lent z) (λ ok. lent-serves z 0)
+      (λ r. r ≡ openBoard z v (lent z) → opens rest r .whole ≡ true → Reached z v (opens rest r .board))
+      (λ bad is w. absurd (false≢true w))
+      (λ good is w. leads (sym is) (after-all 1 (opened z v) (rest .pieces) (rest .ended) (scene z v (opened z v) nothing) (record { sizes = refl; first = refl; memory = refl }) w))
+      refl
+    where
+      leads : {m : Memory} → openBoard z v (lent z) ≡ reply 0 0 (opened z v) → Leads (scene z v (opened z v) nothing) m → Reached z v m
+      leads is l =
+          record {
+            opens = rw is;
+            events = l .events;
+            sizes = rw is (l .on .sizes);
+            first = rw is (l .on .first);
+            memory = rw is (l .on .memory);
+          }
+
+-- a session that is played to its end: its opening answered 0, and its other records follow
+pub played : PlayedIsReached
+unfolding runOn run requested
+played bytes =
+    let z = sizesAsked bytes in
+    let v = firstAsked bytes in
+    session-cases bytes (λ s. run z v 0 (lent z) (s .pieces) (s .ended) .whole ≡ true → Reached z v (run z v 0 (lent z) (s .pieces) (s .ended) .board))
+    (λ n l w. absurd (false≢true w))
+    (λ rest. from-opening z v rest)

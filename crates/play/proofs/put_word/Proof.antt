@@ -1,0 +1,61 @@
+-- `play::put_word` meets its contract: the line of an address, if it was changed.
+use Prim.Native.Nat.{ℕ}
+use mathlib.Core.Path.{_≡_, sym, _∙_}
+use mathlib.Core.List.{[]}
+use mathlib.Core.Bool.{true, false, _&&_}
+use lib.Dec.{eqb}
+use borrow.Author.Needs.{needs}
+use Rattle.memory.specs.declared.Sizes.{Sizes}
+use Rattle.memory.specs.declared.Looked.{Looked}
+use Rattle.memory.specs.Pieces.{Memory}
+use Rattle.memory.specs.Requests.{look}
+use Rattle.text.specs.Text.{wordLine}
+use Rattle.play.specs.Play.{shown}
+use Rattle.play.proofs.Puts.{put-none}
+use Rattle.play.proofs.put_word.Statement.{statement}
+use Rattle.play.proofs.put_word.Tie as tie
+
+-- what is shown of an address that was looked up
+module _ (z : Sizes) (v : ℕ) (m : Memory) (a : ℕ) (l : Looked) (is : l ≡ look z m a) where
+  unchanged : (eqb (l .value) 0 && eqb (l .version) v) ≡ true → shown z v m a ≡ []
+  unfolding shown
+  unchanged e = rw (← is, e)
+
+  changed : (eqb (l .value) 0 && eqb (l .version) v) ≡ false → shown z v m a ≡ wordLine a (l .value) (l .version)
+  unfolding shown
+  changed e = rw (← is, e)
+
+look-requires : tie.Need-look-requires
+look-requires c κs = search needs
+
+is-first-requires : tie.Need-is-first-requires
+is-first-requires c κs = search needs
+
+returns : tie.Need-returns
+returns c =
+    rw (unchanged _ _ _ _ _ (c .before .before .look .ensures) (sym (c .before .is-first .ensures) ∙ c .if1 .taken)) (put-none 35 _ _)
+
+cast-put-word-line : tie.Need-cast-put-word-line
+cast-put-word-line c = search needs
+
+put-word-line-requires : tie.Need-put-word-line-requires
+put-word-line-requires c κs = search needs
+
+same-length : tie.Need-same-length
+same-length c = search needs
+
+returns-2 : tie.Need-returns-2
+returns-2 c =
+    rw (changed _ _ _ _ _ (c .before .before .before .before .before .before .look .ensures) (sym (c .before .before .before .before .before .is-first .ensures) ∙ c .before .before .before .before .if1 .left)) (c .before .before .put-word-line .ensures)
+
+pub put-word-spec : {M : Type 1} → statement M
+put-word-spec =
+    tie.close
+    (tie.spec
+    look-requires
+    is-first-requires
+    returns
+    cast-put-word-line
+    put-word-line-requires
+    same-length
+    returns-2)

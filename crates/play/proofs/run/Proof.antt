@@ -1,0 +1,139 @@
+-- `play::run` meets its contract: a refusal of the first record, or the text on the parts that it asks.
+use mathlib.Core.Path.{_≡_, sym, ap, _∙_}
+use mathlib.Core.Bool.{true}
+use lib.Seq.{length-take-le}
+use denote.Ref.{now}
+use native.Mathlib.Omega.{arith}
+use borrow.Author.Needs.{needs}
+use Rattle.session.specs.declared.Split.the-variants.{Record}
+use Rattle.session.specs.Session.{firstVersion, split}
+use Rattle.play.specs.Play.{sizesOf}
+use Rattle.play.proofs.Ends.{no-record}
+use Rattle.play.proofs.Texts.{refused-text, on-tables, short-enough}
+use Rattle.play.proofs.Lent.{parts-serve}
+use Rattle.play.proofs.run.Statement.{statement}
+use Rattle.play.proofs.run.Tie as tie
+
+-- the first record is split off
+opens : (c : tie.After-next) → split true (now (c .before .before .before .before .before .before .before .args .session)) ≡ Record (c .next .given .0 .0)
+opens c = sym (c .before .before .split-off .ensures) ∙ c .next .given .1
+
+split-off-requires : tie.Need-split-off-requires
+split-off-requires c κs = search needs
+
+enum-known-next : tie.Need-enum-known-next
+enum-known-next c = search needs
+
+put-end-requires : tie.Need-put-end-requires
+put-end-requires c κs = search needs
+
+same-length : tie.Need-same-length
+same-length c = search needs
+
+returns : tie.Need-returns
+returns c =
+    refused-text _ _ (sym (c .before .before .before .before .before .split-off .ensures)) (no-record _ (c .before .before .before .before .match .keys2)) (c .before .before .put-end .ensures) (omega arith)
+
+body-requires : tie.Need-body-requires
+body-requires c κs = search needs
+
+sizes-of-requires : tie.Need-sizes-of-requires
+sizes-of-requires c κs = search needs
+
+four-at-requires : tie.Need-four-at-requires
+four-at-requires c κs = search needs
+
+at-most-requires : tie.Need-at-most-requires
+at-most-requires c κs = search needs
+
+at-most-requires-2 : tie.Need-at-most-requires-2
+at-most-requires-2 c κs = search needs
+
+at-most-requires-3 : tie.Need-at-most-requires-3
+at-most-requires-3 c κs = search needs
+
+mul-e : tie.Need-mul-e
+mul-e c = search needs
+
+slice-relend-prefix-run-board : tie.Need-slice-relend-prefix-run-board
+slice-relend-prefix-run-board c = search needs
+
+slice-aggregate-run-board : tie.Need-slice-aggregate-run-board
+slice-aggregate-run-board c = sym (length-take-le _ _ (slice-relend-prefix-run-board (c .before)))
+
+slice-relend-prefix-run-board-2 : tie.Need-slice-relend-prefix-run-board-2
+slice-relend-prefix-run-board-2 c = search needs
+
+slice-aggregate-run-board-2 : tie.Need-slice-aggregate-run-board-2
+slice-aggregate-run-board-2 c = sym (length-take-le _ _ (slice-relend-prefix-run-board-2 (c .before)))
+
+slice-relend-prefix-run-board-3 : tie.Need-slice-relend-prefix-run-board-3
+slice-relend-prefix-run-board-3 c = search needs
+
+slice-aggregate-run-board-3 : tie.Need-slice-aggregate-run-board-3
+slice-aggregate-run-board-3 c = sym (length-take-le _ _ (slice-relend-prefix-run-board-3 (c .before)))
+
+slice-relend-prefix-run-board-4 : tie.Need-slice-relend-prefix-run-board-4
+slice-relend-prefix-run-board-4 c = search needs
+
+slice-aggregate-run-board-4 : tie.Need-slice-aggregate-run-board-4
+slice-aggregate-run-board-4 c = sym (length-take-le _ _ (slice-relend-prefix-run-board-4 (c .before)))
+
+run-board-requires : tie.Need-run-board-requires
+run-board-requires c κs = (short-enough _ _ (opens (c .before .before .before .before .before .before .before .before .before .before .before .before)), c .before .before .before .before .before .before .before .before .before .sizes-of .ensures .1)
+
+same-length-2 : tie.Need-same-length-2
+same-length-2 c = search needs
+
+same-length-3 : tie.Need-same-length-3
+same-length-3 c = search needs
+
+same-length-4 : tie.Need-same-length-4
+same-length-4 c = search needs
+
+same-length-5 : tie.Need-same-length-5
+same-length-5 c = search needs
+
+same-length-6 : tie.Need-same-length-6
+same-length-6 c = search needs
+
+returns-2 : tie.Need-returns-2
+returns-2 c =
+    let start = c .before .before .before .before .before .before .before .before .before .before .before .before .before .before .before .before .before .before .before .before .before .before .before .before .before .before .before .before in
+    let read = c .before .before .before .before .before .before .before .before .before .before .before .before .before .before .before .before .before .before .before in
+    on-tables _ _ _ _ _ (opens (c .before .before .before .before .before .before .before .before .before .before .before .before .before .before .before .before .before .before .before .before .before)) (c .before .before .before .before .before .before .before .before .before .before .before .before .before .before .before .before .before .before .sizes-of .ensures .0 ∙ ap sizesOf (read .body .ensures))
+    (c .before .before .before .before .before .before .before .before .before .before .before .before .before .before .before .before .before .four-at .ensures ∙ ap firstVersion (read .body .ensures))
+    (parts-serve _ _ _ _ _ _ _ _ (start .pre) (c .before .before .before .before .before .before .before .before .before .before .before .before .before .before .before .before .at-most .ensures) (c .before .before .before .before .before .before .before .before .before .before .before .before .before .before .before .at-most2 .ensures) (c .before .before .before .before .before .before .before .before .before .before .before .before .before .before .at-most3 .ensures))
+    (c .before .before .before .before .before .before .before .before .run-board .ensures)
+
+pub run-spec : {M : Type 1} → statement M
+run-spec =
+    tie.close
+    (tie.spec
+    split-off-requires
+    enum-known-next
+    put-end-requires
+    same-length
+    returns
+    body-requires
+    sizes-of-requires
+    four-at-requires
+    at-most-requires
+    at-most-requires-2
+    at-most-requires-3
+    mul-e
+    slice-relend-prefix-run-board
+    slice-aggregate-run-board
+    slice-relend-prefix-run-board-2
+    slice-aggregate-run-board-2
+    slice-relend-prefix-run-board-3
+    slice-aggregate-run-board-3
+    slice-relend-prefix-run-board-4
+    slice-aggregate-run-board-4
+    run-board-requires
+    same-length-2
+    same-length-3
+    same-length-4
+    same-length-5
+    same-length-6
+    returns-2)

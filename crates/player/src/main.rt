@@ -1,0 +1,48 @@
+// Plays the session that standard input holds, and prints its text. Reading and writing are all that is done here.
+use libc::STDIN_FILENO;
+use libc::STDOUT_FILENO;
+use play::Played;
+
+// One byte past the longest session, to tell 14.
+fn room_for_session() -> [u8; 60001] {
+    [0u8; 60001]
+}
+
+// No text is longer: 20,000 lines of records, and 4,096 of words.
+fn room_for_text() -> [u8; 800000] {
+    [0u8; 800000]
+}
+
+// Prints as much of the text as was written.
+fn print(text: &[u8], length: usize) {
+    if length <= text.len() {
+        io::write_all(STDOUT_FILENO, &text[..length]);
+    }
+}
+
+// Plays what was read, on tables of the largest sizes.
+fn play_session(session: &[u8], text: &mut [u8]) {
+    let mut words = [0u32; memory::MOST_WORDS];
+    let mut records = [0u32; memory::MOST_RECORDS];
+    let mut places = [[0u32; 3]; memory::MOST_TASKS];
+    let mut entries = [[0u32; 5]; memory::MOST_ENTRIES * memory::MOST_TASKS];
+    let played = play::play(
+        session,
+        &mut words,
+        &mut records,
+        &mut places,
+        &mut entries,
+        text,
+    );
+    match played {
+        Played::Written(length) => print(text, length),
+        Played::TooShort => print(b"The text is too long.\n", 22),
+    }
+}
+
+fn main() {
+    let mut session = room_for_session();
+    let mut text = room_for_text();
+    let length = io::read_full(STDIN_FILENO, &mut session);
+    play_session(&session[..length], &mut text);
+}
