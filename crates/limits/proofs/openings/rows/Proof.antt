@@ -1,0 +1,68 @@
+-- `limits::openings::rows` is safe and ends: each turn leaves fewer rows, and every slice keeps its length.
+use borrow.Author.Needs.{needs}
+use Prim.Native.Nat.{_-_}
+use mathlib.Core.Path.{_≡_}
+use lib.ListN.{length}
+use Rattle.limits.proofs.openings.rows.Statement.{statement}
+use Rattle.limits.proofs.openings.rows.Tie as tie
+
+abbrev Inv-loop : tie.InvT-loop
+Inv-loop script words₀ records₀ places₀ entries₀ i₀ i-end words records places entries i = (length words ≡ length words₀) × ((length records ≡ length records₀) × ((length places ≡ length places₀) × (length entries ≡ length entries₀)))
+
+abbrev μ-loop : tie.MeasureT-loop
+μ-loop script words₀ records₀ places₀ entries₀ i₀ i-end words records places entries i = i-end - i
+
+loop-holds : tie.Need-loop-holds Inv-loop μ-loop
+loop-holds c = search needs
+
+mul-opening : tie.Need-mul-opening Inv-loop μ-loop
+mul-opening c = search needs
+
+shared-slice-copy-out-opening : tie.Need-shared-slice-copy-out-opening Inv-loop μ-loop
+shared-slice-copy-out-opening c = search needs
+
+opening-requires : tie.Need-opening-requires Inv-loop μ-loop
+opening-requires c κs = search needs
+
+add-i : tie.Need-add-i Inv-loop μ-loop
+add-i c = search needs
+
+loop-less : tie.Need-loop-less Inv-loop μ-loop
+loop-less c = search needs
+
+loop-again : tie.Need-loop-again Inv-loop μ-loop
+loop-again c = search needs
+
+same-length : tie.Need-same-length Inv-loop μ-loop
+same-length c = search needs
+
+same-length-2 : tie.Need-same-length-2 Inv-loop μ-loop
+same-length-2 c = search needs
+
+same-length-3 : tie.Need-same-length-3 Inv-loop μ-loop
+same-length-3 c = search needs
+
+same-length-4 : tie.Need-same-length-4 Inv-loop μ-loop
+same-length-4 c = search needs
+
+returns : tie.Need-returns Inv-loop μ-loop
+returns c = search needs
+
+pub rows-spec : {M : Type 1} → statement M
+rows-spec =
+    tie.close
+    (tie.spec
+    Inv-loop
+    μ-loop
+    loop-holds
+    mul-opening
+    shared-slice-copy-out-opening
+    opening-requires
+    add-i
+    loop-less
+    loop-again
+    same-length
+    same-length-2
+    same-length-3
+    same-length-4
+    returns)

@@ -1,0 +1,194 @@
+// What the second machine keeps, in other terms than document 01's tables: the serial board itself, a value for each address and a
+// version for each record, which a transaction changes all at once at its deciding step, so that no word is looked up through
+// an owner. Beside the board each task has its log, an address and a value a line, and three numbers for each record: the version
+// that the task saw there (0: none), whether it wrote there, and whether it holds it. All stand in one slice of numbers, `m`.
+use crate::store::left_of;
+use std::num::wrapping_add_u32;
+use trial::get;
+use trial::narrow;
+use trial::put;
+use trial::wide;
+
+pub const IDLE: u32 = 0;
+
+pub const OPEN: u32 = 1;
+
+pub const TAKING: u32 = 2;
+
+pub const ASLEEP: u32 = 3;
+
+pub const WRITING: u32 = 4;
+
+pub const RELEASING: u32 = 5;
+
+// What a task takes for, or how it ends: the number that is answered when it comes to that.
+pub const SLEEP: u32 = 20;
+
+pub const COMMITTED: u32 = 21;
+
+pub const FAILED: u32 = 22;
+
+pub const WOKEN: u32 = 23;
+
+// The board's values stand first, then its versions, and then a stretch for each task.
+const VERSIONS: usize = 4096;
+
+const STRETCHES: usize = 5120;
+
+const STRETCH: usize = 3204;
+
+pub const NUMBERS: usize = 107648;
+
+// A task's numbers. From ADDRESSES on there is one for each line of its log, and from SEEN on one for each record.
+pub const PHASE: usize = 0;
+
+pub const AIM: usize = 1;
+
+pub const POSITION: usize = 2;
+
+pub const LINES: usize = 3;
+
+pub const ADDRESSES: usize = 4;
+
+pub const NEWS: usize = 68;
+
+pub const SEEN: usize = 132;
+
+pub const WROTE: usize = 1156;
+
+pub const HOLDS: usize = 2180;
+
+// Where the number of a kind stands in a task's stretch, the first of them or that of line or record i.
+fn place(t: usize, kind: usize, i: usize) -> usize {
+    if 32 <= t {
+        return NUMBERS;
+    }
+    if STRETCH <= kind {
+        return NUMBERS;
+    }
+    if STRETCH - kind <= i {
+        return NUMBERS;
+    }
+    STRETCHES + t * STRETCH + kind + i
+}
+
+pub fn at(m: &[u32], t: usize, kind: usize, i: usize) -> u32 {
+    get(m, place(t, kind, i))
+}
+
+pub fn set(m: &mut [u32], t: usize, kind: usize, i: usize, v: u32) {
+    put(m, place(t, kind, i), v);
+}
+
+pub fn value(m: &[u32], a: usize) -> u32 {
+    if a < VERSIONS { get(m, a) } else { 0 }
+}
+
+fn set_value(m: &mut [u32], a: usize, v: u32) {
+    if a < VERSIONS {
+        put(m, a, v);
+    }
+}
+
+pub fn version(m: &[u32], r: usize) -> u32 {
+    if r < STRETCHES - VERSIONS {
+        get(m, VERSIONS + r)
+    } else {
+        0
+    }
+}
+
+fn set_version(m: &mut [u32], r: usize, v: u32) {
+    if r < STRETCHES - VERSIONS {
+        put(m, VERSIONS + r, v);
+    }
+}
+
+pub fn phase(m: &[u32], t: usize) -> u32 {
+    at(m, t, PHASE, 0)
+}
+
+pub fn lines(m: &[u32], t: usize) -> usize {
+    wide(at(m, t, LINES, 0))
+}
+
+pub fn address(m: &[u32], t: usize, i: usize) -> usize {
+    wide(at(m, t, ADDRESSES, i))
+}
+
+// A task goes to a phase, from its first line on.
+pub fn go(m: &mut [u32], t: usize, phase: u32, aim: u32) {
+    set(m, t, PHASE, 0, phase);
+    set(m, t, AIM, 0, aim);
+    set(m, t, POSITION, 0, 0);
+}
+
+pub fn advance(m: &mut [u32], t: usize) {
+    let i = at(m, t, POSITION, 0);
+    set(m, t, POSITION, 0, wrapping_add_u32(i, 1));
+}
+
+// The line of an address in a task's log, and the number of lines where there is none.
+pub fn line_of(m: &[u32], t: usize, a: usize) -> usize {
+    let n = lines(m, t);
+    for i in 0..n {
+        if address(m, t, i) == a {
+            return i;
+        }
+    }
+    n
+}
+
+// The task that holds a record, and the number of tasks where none does.
+pub fn holder(m: &[u32], tasks: usize, r: usize) -> usize {
+    for t in 0..tasks {
+        if at(m, t, HOLDS, r) == 1 {
+            return t;
+        }
+    }
+    tasks
+}
+
+// A line for a new address: the value on the board, and the version of its record as seen.
+pub fn add_line(m: &mut [u32], t: usize, a: usize, r: usize) {
+    let n = lines(m, t);
+    let news = value(m, a);
+    let seen = version(m, r);
+    set(m, t, ADDRESSES, n, narrow(a));
+    set(m, t, NEWS, n, news);
+    set(m, t, SEEN, r, seen);
+    set(m, t, LINES, 0, wrapping_add_u32(narrow(n), 1));
+}
+
+// Idle again, and the log dropped.
+pub fn end(m: &mut [u32], records: usize, t: usize) {
+    for i in 0..lines(m, t) {
+        let r = left_of(address(m, t, i), records);
+        set(m, t, SEEN, r, 0);
+        set(m, t, WROTE, r, 0);
+    }
+    set(m, t, LINES, 0, 0);
+    go(m, t, IDLE, 0);
+}
+
+// The deciding step of a commit: the board takes the value of every line, and each record of the log its new version.
+pub fn decide(m: &mut [u32], records: usize, t: usize) {
+    for i in 0..lines(m, t) {
+        let a = address(m, t, i);
+        let r = left_of(a, records);
+        let news = at(m, t, NEWS, i);
+        let raised = wrapping_add_u32(at(m, t, SEEN, r), at(m, t, WROTE, r));
+        set_value(m, a, news);
+        set_version(m, r, raised);
+    }
+}
+
+// A fresh board, and every task Idle.
+pub fn clear(m: &mut [u32], first: u32) {
+    for i in 0..m.len() {
+        put(m, i, 0);
+    }
+    for r in 0..STRETCHES - VERSIONS {
+        set_version(m, r, first);
+    }
+}
