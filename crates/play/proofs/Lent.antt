@@ -1,7 +1,7 @@
 -- What tables of the sizes asked hold before the opening has no part in the text.
-use Prim.Native.Nat.{ℕ, zero, suc, _*_, _≤_}
+use Prim.Native.Nat.{ℕ, _*_, _≤_}
 use mathlib.Core.Path.{_≡_, refl, sym, ap, _∙_}
-use mathlib.Core.List.{List, [], _∷_, _++_}
+use mathlib.Core.List.{List, []}
 use mathlib.Core.Bool.{Bool, true, false, not, _&&_, false≢true}
 use lib.ListN.{length, take, length-replicate}
 use lib.Seq.{length-take-le}
@@ -13,13 +13,11 @@ use Rattle.memory.specs.Sound.{within, sizesOk, lengthsOk}
 use Rattle.memory.specs.Numbers.{Reply, reply, refused}
 use Rattle.memory.specs.Requests.{opened, openBoard}
 use Rattle.memory.proofs.Tools.{and-0, and-1, and-make}
-use Rattle.session.specs.declared.Split.{Split}
-use Rattle.session.specs.declared.Split.the-variants.{Refused}
-use Rattle.session.specs.Session.{Piece, Session, session}
+use Rattle.session.specs.Session.{Session}
 use Rattle.session.proofs.Cases.{session-cases}
 use Rattle.text.specs.Text.{line}
 use Rattle.play.specs.Contract.{Roomy}
-use Rattle.play.specs.Play.{lent, Run, runs, after, stops, run, requested, printed, runOn}
+use Rattle.play.specs.Play.{runs, after, stops, run, requested, printed, runOn}
 
 -- tables that are long enough wherever the sizes are in range
 abbrev pub Serves : Sizes → Memory → Type 0

@@ -1,7 +1,4 @@
 -- The promises of specs/Claims.antt, kept.
-use mathlib.Core.Path.{_≡_, sym, ap, _∙_}
-use mathlib.Core.Bool.{true}
-use Rattle.memory.specs.Sound.{sound}
 use Rattle.memory.proofs.Promises.{reached-is-sound}
 use Rattle.play.specs.Play.{sizesAsked, firstAsked, lent}
 use Rattle.play.specs.Claims.{ran, PlayedIsReached, WordLinesAreTheBoard}

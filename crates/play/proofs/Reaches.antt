@@ -1,7 +1,7 @@
 -- The board that a session leaves is reached after its opening by the calls of its other records.
-use Prim.Native.Nat.{ℕ, zero, suc}
-use mathlib.Core.Path.{_≡_, refl, sym, ap, _∙_}
-use mathlib.Core.List.{List, [], _∷_, _++_}
+use Prim.Native.Nat.{ℕ, suc}
+use mathlib.Core.Path.{_≡_, refl, sym}
+use mathlib.Core.List.{List, [], _∷_}
 use mathlib.Core.Bool.{Bool, true, false, false≢true}
 use lib.Dec.{eqb}
 use Rattle.memory.specs.declared.Sizes.{Sizes}
@@ -10,7 +10,7 @@ use Rattle.memory.specs.Numbers.{Reply, reply}
 use Rattle.memory.specs.Requests.{opened, openBoard}
 use Rattle.memory.specs.Calls.{Call, call}
 use Rattle.memory.specs.Calls.Call.{ST, CM, AB, WT, SP, RD, WR}
-use Rattle.memory.specs.History.{Event, Scene, Notes, scene, nothing, begun, asks, next, ran, reached}
+use Rattle.memory.specs.History.{Event, Scene, scene, nothing, next, ran}
 use Rattle.memory.specs.History.Event.{request, opening}
 use Rattle.memory.proofs.Tools.{if-cases}
 use Rattle.session.specs.declared.Kind.{Kind}
@@ -18,9 +18,8 @@ use Rattle.session.specs.declared.Kind.the-variants.{Open, Start, Commit, Abort
 use Rattle.session.specs.declared.Split.{Split}
 use Rattle.session.specs.declared.Split.the-variants.{Record, Refused, End}
 use Rattle.session.specs.Session as file
-use Rattle.session.specs.Session.{Piece, Session, session}
+use Rattle.session.specs.Session.{Piece, Session}
 use Rattle.session.proofs.Cases.{session-cases}
-use Rattle.text.specs.Text.{line}
 use Rattle.play.specs.Claims.{Reached, PlayedIsReached}
 use Rattle.play.specs.Play.{sizesAsked, firstAsked, lent, Run, runs, after, over, run, requested, stops, runOn}
 use Rattle.play.proofs.Lent.{opening-cases, lent-serves}

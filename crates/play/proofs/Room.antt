@@ -1,13 +1,12 @@
 -- Lent tables of the largest sizes, and what the buffer holds after a session was played.
-use Prim.Native.Nat.{ℕ, _+_, _*_, _<_, _≤_}
-use mathlib.Core.Path.{_≡_, refl, sym, ap, _∙_}
+use Prim.Native.Nat.{ℕ, _+_, _<_, _≤_}
+use mathlib.Core.Path.{_≡_, refl, ap}
 use mathlib.Core.List.{List, [], _∷_, _++_}
-use mathlib.Core.Bool.{Bool, true, false, _&&_}
-use lib.Dec.{leb}
+use mathlib.Core.Bool.{Bool, true, false}
 use lib.ListN.{length}
 use native.Mathlib.Omega.{arith}
 use borrow.Author.Tests.{leb-true, le-leb, lt-leb}
-use Rattle.memory.specs.Pieces.{if_then_else_, Memory, mostWords, mostRecords, mostTasks, mostEntries}
+use Rattle.memory.specs.Pieces.{Memory}
 use Rattle.memory.proofs.Tools.{and-0, and-1, and-make}
 use Rattle.text.specs.Text.{Put}
 use Rattle.play.specs.Play.{text}

@@ -1,6 +1,6 @@
 -- On a sound board the `w` lines are those of exactly the changed addresses.
 use Prim.Native.Nat.{ℕ, zero, suc, _<_, _≤_}
-use mathlib.Core.Path.{_≡_, refl, sym, ap, _∙_, subst}
+use mathlib.Core.Path.{_≡_, refl, sym, ap, _∙_}
 use mathlib.Core.Logic.{_⊎_, inl, inr, ⊎-elim, _≢_}
 use mathlib.Core.List.{List, [], _∷_, _++_, append-assoc, append-nil, List·Memᴰ·head, List·Memᴰ·not-nil, List·Memᴰ·append-cases, List·Memᴰ·eq-of-singleton, Memᴰ·append-left, Memᴰ·append-right}
 use mathlib.Core.Bool.{Bool, true, false, not, _&&_, false≢true}
@@ -13,10 +13,10 @@ use Rattle.memory.specs.Sound.{sound}
 use Rattle.memory.specs.Logical.{logical}
 use Rattle.memory.specs.Requests.{look, looked}
 use Rattle.memory.specs.History.{_∈_}
-use Rattle.memory.proofs.Tools.{same?, and-make}
+use Rattle.memory.proofs.Tools.{same?}
 use Rattle.text.specs.Text.{wordLine}
 use Rattle.play.specs.Play.{shown, wordLines}
-use Rattle.play.specs.Claims.{among, Changed, changed, linesOf, Exactly, ShowsTheBoard}
+use Rattle.play.specs.Claims.{among, Changed, changed, linesOf, ShowsTheBoard}
 
 -- the addresses that pass a test -----------------------------------------------------------------------------------------------------
 

@@ -1,15 +1,14 @@
 -- The lines of a run and of the board are the text.
-use Prim.Native.Nat.{ℕ, _+_, _*_, _<_, _≤_}
+use Prim.Native.Nat.{ℕ, _+_, _≤_}
 use mathlib.Core.Path.{_≡_, refl, sym, ap, _∙_, subst}
-use mathlib.Core.List.{List, [], _++_, append-nil}
+use mathlib.Core.List.{List, append-nil}
 use mathlib.Core.Bool.{Bool, true, false, false≢true}
-use lib.ListN.{length, drop}
+use lib.ListN.{length}
 use native.Mathlib.Omega.{arith}
 use borrow.Author.Tests.{ltb-false}
 use Rattle.memory.specs.declared.Sizes.{Sizes}
-use Rattle.memory.specs.Pieces.{if_then_else_, Memory}
+use Rattle.memory.specs.Pieces.{Memory}
 use Rattle.session.specs.declared.Kind.{Kind}
-use Rattle.session.specs.declared.Kind.the-variants.{Open}
 use Rattle.session.specs.declared.Split.{Split}
 use Rattle.session.specs.declared.Split.the-variants.{Record, Refused, End}
 use Rattle.session.specs.Session as file

@@ -1,5 +1,5 @@
 -- A run of a session under way: what was printed, and what is left.
-use Prim.Native.Nat.{ℕ, suc, _+_, _*_, _<_, _≤_}
+use Prim.Native.Nat.{ℕ, suc, _+_, _*_, _≤_}
 use mathlib.Core.Path.{_≡_, refl, sym, ap, _∙_, subst}
 use mathlib.Core.List.{List, [], _++_, append-assoc, append-nil}
 use mathlib.Core.Bool.{Bool, true, false}
@@ -9,7 +9,7 @@ use native.Mathlib.Numerals.{add-one}
 use native.Mathlib.Omega.{arith}
 use Rattle.memory.specs.declared.Sizes.{Sizes}
 use Rattle.memory.specs.Pieces.{Memory}
-use Rattle.memory.specs.Numbers.{Reply, reply}
+use Rattle.memory.specs.Numbers.{reply}
 use Rattle.session.specs.declared.Kind.{Kind}
 use Rattle.session.specs.declared.Split.{Split}
 use Rattle.session.specs.declared.Split.the-variants.{Record}
@@ -18,7 +18,7 @@ use Rattle.session.proofs.Cases.{there}
 use Rattle.text.specs.Text.{line, Put}
 use Rattle.text.proofs.Laws.{follow}
 use Rattle.play.specs.Play.{Run, runs, after, over, requested, stops, runOn}
-use Rattle.play.specs.Contract.{Runs}
+use Rattle.play.specs.Contract.{Runs, lineRoom, recordsRoom}
 use Rattle.play.proofs.Puts.{put-none, wider}
 use Rattle.play.proofs.Turns.{restRun, onFrom, all-of-it, ends-here, one-more}
 
@@ -32,14 +32,14 @@ room s from i k is = omega (arith, there (eqb i 0) (drop from s) k is .whole, le
 module _ (s : List ℕ) (z : Sizes) (v : ℕ) (m₀ : Memory) (out₀ : List ℕ) where
   pub record Under (m : Memory) (out : List ℕ) (from i at : ℕ) : Type 0 where
     pub printed : List ℕ
-    pub put : Put (33 * i) out₀ 0 printed out at
+    pub put : Put (lineRoom * i) out₀ 0 printed out at
     pub goes : after printed (restRun z v s m i from) ≡ runOn z v m₀ s
     pub behind : i ≤ from
     pub inside : from ≤ length s
 
   -- what was printed and what comes after it, as one
   joined : {i at next : ℕ} {printed out left : List ℕ} {r : Run} {w : Bool} {m : Memory} → i ≤ mostBytes
-      → Put (33 * i) out₀ 0 printed out at → Runs 33 r out at left next w m → Runs 1980033 (after printed r) out₀ 0 left next w m
+      → Put (lineRoom * i) out₀ 0 printed out at → Runs lineRoom r out at left next w m → Runs recordsRoom (after printed r) out₀ 0 left next w m
   joined few p q = record { lines = wider (omega arith) (follow p (q .lines)); whole = q .whole; board = q .board }
 
 module _ (s : List ℕ) (z : Sizes) (v : ℕ) (m₀ : Memory) (out₀ : List ℕ) where
@@ -49,20 +49,20 @@ module _ (s : List ℕ) (z : Sizes) (v : ℕ) (m₀ : Memory) (out₀ : List ℕ
   module _ (m : Memory) (out : List ℕ) (from i at : ℕ) (u : Under s z v m₀ out₀ m out from i at) (short : length s ≤ mostBytes) where
     -- no record is split off
     pub finish : {e : Split} {left : List ℕ} {next : ℕ} {w : Bool} → split (eqb i 0) (drop from s) ≡ e → ((k : Kind) → e ≡ Record k → ⊥)
-        → Runs 33 (over i m e) out at left next w m → Runs 1980033 (runOn z v m₀ s) out₀ 0 left next w m
+        → Runs lineRoom (over i m e) out at left next w m → Runs recordsRoom (runOn z v m₀ s) out₀ 0 left next w m
     finish {e} {left} {next} {w} q none r =
-        subst (λ (t : Run). Runs 1980033 t out₀ 0 left next w m) (ap (after (u .printed)) (sym (ends-here z v s m i from e q none)) ∙ u .goes)
+        subst (λ (t : Run). Runs recordsRoom t out₀ 0 left next w m) (ap (after (u .printed)) (sym (ends-here z v s m i from e q none)) ∙ u .goes)
         (joined s z v m₀ out₀ (omega (arith, u .behind, u .inside)) (u .put) r)
 
     -- a record is split off and asked
     module _ (k : Kind) (is : split (eqb i 0) (drop from s) ≡ Record k) (n value : ℕ) (m′ : Memory)
-        (asks : reply n value m′ ≡ requested z v m k (body k (drop from s))) (left : List ℕ) (next : ℕ) (puts : Put 33 out at (line i n value) left next) where
+        (asks : reply n value m′ ≡ requested z v m k (body k (drop from s))) (left : List ℕ) (next : ℕ) (puts : Put lineRoom out at (line i n value) left next) where
       unfolds : restRun z v s m i from ≡ onFrom z v s i from k (reply n value m′)
       unfolds = one-more z v s m i from k (omega (arith, room s from i k is, u .behind)) is ∙ ap (onFrom z v s i from k) (sym asks)
 
-      pub halt : stops n ≡ true → Runs 1980033 (runOn z v m₀ s) out₀ 0 left next false m′
+      pub halt : stops n ≡ true → Runs recordsRoom (runOn z v m₀ s) out₀ 0 left next false m′
       halt e =
-          subst (λ (t : Run). Runs 1980033 t out₀ 0 left next false m′) (ap (after (u .printed)) (sym (unfolds ∙ stopped)) ∙ u .goes)
+          subst (λ (t : Run). Runs recordsRoom t out₀ 0 left next false m′) (ap (after (u .printed)) (sym (unfolds ∙ stopped)) ∙ u .goes)
           (joined s z v m₀ out₀ (omega (arith, u .behind, u .inside)) (u .put) (record { lines = rw append-nil puts; whole = refl; board = refl }))
         where
           stopped : onFrom z v s i from k (reply n value m′) ≡ after (line i n value) (runs [] false m′)

@@ -1,15 +1,30 @@
 -- What the contracts of the code cite besides the text itself.
 pub use Rattle.play.specs.declared.Played.{Played}
 pub use Rattle.play.specs.declared.Played.the-variants.{Written, TooShort}
-use Prim.Native.Nat.{ℕ, _*_, _≤_}
+use Prim.Native.Nat.{ℕ, _+_, _*_, _≤_}
 use mathlib.Core.Path.{_≡_}
 use mathlib.Core.List.{List}
 use mathlib.Core.Bool.{Bool, _&&_}
 use lib.Dec.{leb}
 use lib.ListN.{length}
 use Rattle.memory.specs.Pieces.{if_then_else_, Memory, mostWords, mostRecords, mostTasks, mostEntries}
+use Rattle.session.specs.Session.{mostBytes}
 use Rattle.text.specs.Text.{Put, stored}
 use Rattle.play.specs.Play.{Run, text}
+
+-- how long a line can be: three numbers of 32 bits, and for an address two bytes more
+abbrev pub lineRoom : ℕ
+lineRoom = 33
+
+abbrev pub wordLineRoom : ℕ
+wordLineRoom = 35
+
+-- how long the lines of all records can be, and the whole text
+abbrev pub recordsRoom : ℕ
+recordsRoom = lineRoom * mostBytes + lineRoom
+
+abbrev pub textRoom : ℕ
+textRoom = recordsRoom + wordLineRoom * 65535
 
 -- lent tables of the largest sizes
 unfoldable pub roomy : Memory → Bool

@@ -23,35 +23,11 @@ returns-2 c = no-room _ _ _ (λ h. omega (arith, h .for-records, c .if2 .taken))
 returns-3 : tie.Need-returns-3
 returns-3 c = no-room _ _ _ (λ h. omega (arith, h .for-tasks, c .if3 .taken))
 
-mul-if4 : tie.Need-mul-if4
-mul-if4 c = search needs
-
 returns-4 : tie.Need-returns-4
 returns-4 c = no-room _ _ _ (λ h. omega (arith, h .for-entries, c .if4 .taken))
 
-slice-relend-prefix-run : tie.Need-slice-relend-prefix-run
-slice-relend-prefix-run c = search needs
-
-slice-aggregate-run : tie.Need-slice-aggregate-run
-slice-aggregate-run c = search needs
-
 run-requires : tie.Need-run-requires
 run-requires c κs = room (c .before .before .before .before .before)
-
-same-length : tie.Need-same-length
-same-length c = search needs
-
-same-length-2 : tie.Need-same-length-2
-same-length-2 c = search needs
-
-same-length-3 : tie.Need-same-length-3
-same-length-3 c = search needs
-
-same-length-4 : tie.Need-same-length-4
-same-length-4 c = search needs
-
-same-length-5 : tie.Need-same-length-5
-same-length-5 c = search needs
 
 returns-5 : tie.Need-returns-5
 returns-5 c =
@@ -69,21 +45,6 @@ run-requires-2 c κs =
       for-entries = omega (arith, had .for-entries, ran .run .kept .1 .1 .1 .1 .0);
     }
 
-same-length-6 : tie.Need-same-length-6
-same-length-6 c = search needs
-
-same-length-7 : tie.Need-same-length-7
-same-length-7 c = search needs
-
-same-length-8 : tie.Need-same-length-8
-same-length-8 c = search needs
-
-same-length-9 : tie.Need-same-length-9
-same-length-9 c = search needs
-
-same-length-10 : tie.Need-same-length-10
-same-length-10 c = search needs
-
 returns-6 : tie.Need-returns-6
 returns-6 c =
     let ran = c .before .before .before .before .before .before .before .before .before .before .before .before .before .before .before .before .before .before .before .before .before .before .before in
@@ -96,21 +57,21 @@ play-spec =
     returns
     returns-2
     returns-3
-    mul-if4
+    (λ c. search needs)
     returns-4
-    slice-relend-prefix-run
-    slice-aggregate-run
+    (λ c. search needs)
+    (λ c. search needs)
     run-requires
-    same-length
-    same-length-2
-    same-length-3
-    same-length-4
-    same-length-5
+    (λ c. search needs)
+    (λ c. search needs)
+    (λ c. search needs)
+    (λ c. search needs)
+    (λ c. search needs)
     returns-5
     run-requires-2
-    same-length-6
-    same-length-7
-    same-length-8
-    same-length-9
-    same-length-10
+    (λ c. search needs)
+    (λ c. search needs)
+    (λ c. search needs)
+    (λ c. search needs)
+    (λ c. search needs)
     returns-6)

@@ -1,27 +1,19 @@
 -- `play::put_end` meets its contract: the line of a refusal, or nothing.
 use mathlib.Core.Path.{refl}
 use borrow.Author.Needs.{needs}
+use Rattle.play.specs.Contract.{lineRoom}
 use Rattle.play.proofs.Puts.{put-none}
 use Rattle.play.proofs.Ends.{not-refused}
 use Rattle.play.proofs.put_end.Statement.{statement}
 use Rattle.play.proofs.put_end.Tie as tie
 
-enum-known-end : tie.Need-enum-known-end
-enum-known-end c = search needs
-
 returns : tie.Need-returns
 returns c =
-    λ m. rw (not-refused _ m _ (c .match .keys2)) (record { lines = put-none 33 _ _; whole = refl; board = refl })
-
-put-line-requires : tie.Need-put-line-requires
-put-line-requires c κs = search needs
-
-same-length : tie.Need-same-length
-same-length c = search needs
+    λ m. rw (not-refused _ m _ (c .match .keys2)) (record { lines = put-none lineRoom _ _; whole = refl; board = refl })
 
 returns-2 : tie.Need-returns-2
 returns-2 c =
     λ m. rw (c .before .before .before .before .before .end .given .1) (record { lines = c .before .before .put-line .ensures; whole = refl; board = refl })
 
 pub put-end-spec : {M : Type 1} → statement M
-put-end-spec = tie.close (tie.spec enum-known-end returns put-line-requires same-length returns-2)
+put-end-spec = tie.close (tie.spec (λ c. search needs) returns (λ c κs. search needs) (λ c. search needs) returns-2)

@@ -18,42 +18,9 @@ use Rattle.play.proofs.run.Tie as tie
 opens : (c : tie.After-next) → split true (now (c .before .before .before .before .before .before .before .args .session)) ≡ Record (c .next .given .0 .0)
 opens c = sym (c .before .before .split-off .ensures) ∙ c .next .given .1
 
-split-off-requires : tie.Need-split-off-requires
-split-off-requires c κs = search needs
-
-enum-known-next : tie.Need-enum-known-next
-enum-known-next c = search needs
-
-put-end-requires : tie.Need-put-end-requires
-put-end-requires c κs = search needs
-
-same-length : tie.Need-same-length
-same-length c = search needs
-
 returns : tie.Need-returns
 returns c =
     refused-text _ _ (sym (c .before .before .before .before .before .split-off .ensures)) (no-record _ (c .before .before .before .before .match .keys2)) (c .before .before .put-end .ensures) (omega arith)
-
-body-requires : tie.Need-body-requires
-body-requires c κs = search needs
-
-sizes-of-requires : tie.Need-sizes-of-requires
-sizes-of-requires c κs = search needs
-
-four-at-requires : tie.Need-four-at-requires
-four-at-requires c κs = search needs
-
-at-most-requires : tie.Need-at-most-requires
-at-most-requires c κs = search needs
-
-at-most-requires-2 : tie.Need-at-most-requires-2
-at-most-requires-2 c κs = search needs
-
-at-most-requires-3 : tie.Need-at-most-requires-3
-at-most-requires-3 c κs = search needs
-
-mul-e : tie.Need-mul-e
-mul-e c = search needs
 
 slice-relend-prefix-run-board : tie.Need-slice-relend-prefix-run-board
 slice-relend-prefix-run-board c = search needs
@@ -82,21 +49,6 @@ slice-aggregate-run-board-4 c = sym (length-take-le _ _ (slice-relend-prefix-run
 run-board-requires : tie.Need-run-board-requires
 run-board-requires c κs = (short-enough _ _ (opens (c .before .before .before .before .before .before .before .before .before .before .before .before)), c .before .before .before .before .before .before .before .before .before .sizes-of .ensures .1)
 
-same-length-2 : tie.Need-same-length-2
-same-length-2 c = search needs
-
-same-length-3 : tie.Need-same-length-3
-same-length-3 c = search needs
-
-same-length-4 : tie.Need-same-length-4
-same-length-4 c = search needs
-
-same-length-5 : tie.Need-same-length-5
-same-length-5 c = search needs
-
-same-length-6 : tie.Need-same-length-6
-same-length-6 c = search needs
-
 returns-2 : tie.Need-returns-2
 returns-2 c =
     let start = c .before .before .before .before .before .before .before .before .before .before .before .before .before .before .before .before .before .before .before .before .before .before .before .before .before .before .before .before in
@@ -110,18 +62,18 @@ pub run-spec : {M : Type 1} → statement M
 run-spec =
     tie.close
     (tie.spec
-    split-off-requires
-    enum-known-next
-    put-end-requires
-    same-length
+    (λ c κs. search needs)
+    (λ c. search needs)
+    (λ c κs. search needs)
+    (λ c. search needs)
     returns
-    body-requires
-    sizes-of-requires
-    four-at-requires
-    at-most-requires
-    at-most-requires-2
-    at-most-requires-3
-    mul-e
+    (λ c κs. search needs)
+    (λ c κs. search needs)
+    (λ c κs. search needs)
+    (λ c κs. search needs)
+    (λ c κs. search needs)
+    (λ c κs. search needs)
+    (λ c. search needs)
     slice-relend-prefix-run-board
     slice-aggregate-run-board
     slice-relend-prefix-run-board-2
@@ -131,9 +83,9 @@ run-spec =
     slice-relend-prefix-run-board-4
     slice-aggregate-run-board-4
     run-board-requires
-    same-length-2
-    same-length-3
-    same-length-4
-    same-length-5
-    same-length-6
+    (λ c. search needs)
+    (λ c. search needs)
+    (λ c. search needs)
+    (λ c. search needs)
+    (λ c. search needs)
     returns-2)

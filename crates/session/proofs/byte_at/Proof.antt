@@ -7,9 +7,6 @@ use Rattle.session.proofs.Numbers.{one-byte, past-end}
 use Rattle.session.proofs.byte_at.Statement.{statement}
 use Rattle.session.proofs.byte_at.Tie as tie
 
-shared-slice-read-result : tie.Need-shared-slice-read-result
-shared-slice-read-result c = search needs
-
 returns : tie.Need-returns
 returns c = omega (arith, one-byte (c .before .before .args .at) (now (c .before .before .args .body)))
 
@@ -17,4 +14,4 @@ returns-2 : tie.Need-returns-2
 returns-2 c = sym (past-end 1 _ _ (c .if1 .left))
 
 pub byte-at-spec : {M : Type 1} → statement M
-byte-at-spec = tie.close (tie.spec shared-slice-read-result returns returns-2)
+byte-at-spec = tie.close (tie.spec (λ c. search needs) returns returns-2)

@@ -27,18 +27,6 @@ module _ (bytes m : List ℕ) where
 returns : tie.Need-returns
 returns c = too-few _ _ (c .if1 .taken)
 
-shared-slice-read-if2 : tie.Need-shared-slice-read-if2
-shared-slice-read-if2 c = search needs
-
-array-read-if2 : tie.Need-array-read-if2
-array-read-if2 c = search needs
-
-shared-slice-read-result : tie.Need-shared-slice-read-result
-shared-slice-read-result c = search needs
-
-array-read-result : tie.Need-array-read-result
-array-read-result c = search needs
-
 returns-2 : tie.Need-returns-2
 returns-2 c = first-alike _ _ (c .before .before .before .if1 .left) (c .before .if2 .taken)
 
@@ -50,9 +38,9 @@ has-mark-spec =
     tie.close
     (tie.spec
     returns
-    shared-slice-read-if2
-    array-read-if2
-    shared-slice-read-result
-    array-read-result
+    (λ c. search needs)
+    (λ c. search needs)
+    (λ c. search needs)
+    (λ c. search needs)
     returns-2
     returns-3)

@@ -3,11 +3,8 @@ use borrow.Author.Needs.{needs}
 use Rattle.session.proofs.is_over.Statement.{statement}
 use Rattle.session.proofs.is_over.Tie as tie
 
-returns : tie.Need-returns
-returns c = search needs
-
 returns-2 : tie.Need-returns-2
 returns-2 c = rw (c .if1 .left)
 
 pub is-over-spec : {M : Type 1} → statement M
-is-over-spec = tie.close (tie.spec returns returns-2)
+is-over-spec = tie.close (tie.spec (λ c. search needs) returns-2)

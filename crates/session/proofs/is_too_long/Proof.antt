@@ -6,8 +6,5 @@ use Rattle.session.proofs.is_too_long.Tie as tie
 returns : tie.Need-returns
 returns c = rw (c .if1 .taken)
 
-returns-2 : tie.Need-returns-2
-returns-2 c = search needs
-
 pub is-too-long-spec : {M : Type 1} → statement M
-is-too-long-spec = tie.close (tie.spec returns returns-2)
+is-too-long-spec = tie.close (tie.spec returns (λ c. search needs))

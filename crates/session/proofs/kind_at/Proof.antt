@@ -19,9 +19,6 @@ module _ (k : Kind) (ks : List Kind) (bytes : List ℕ) (found : Bool) (says : f
   unfolding kindAmong
   another-kind f = rw (← says, f)
 
-has-mark-requires : tie.Need-has-mark-requires
-has-mark-requires c κs = search needs
-
 returns : tie.Need-returns
 unfolding kindAt
 returns c = sym (this-kind Open _ _ _ (c .before .has-mark .ensures) (c .if1 .taken))
@@ -30,17 +27,11 @@ not-open : (c : tie.Else1) → kindAt (now (c .before .before .before .args .res
 unfolding kindAt
 not-open c = another-kind Open _ _ _ (c .before .has-mark .ensures) (c .if1 .left)
 
-has-mark-requires-2 : tie.Need-has-mark-requires-2
-has-mark-requires-2 c κs = search needs
-
 returns-2 : tie.Need-returns-2
 returns-2 c = sym (not-open (c .before .before) ∙ this-kind Start _ _ _ (c .before .has-mark2 .ensures) (c .if2 .taken))
 
 not-start : (c : tie.Else2) → kindAt (now (c .before .before .before .before .before .args .rest)) ≡ kindAmong (Commit ∷ Abort ∷ Wait ∷ Step ∷ Read ∷ Write ∷ []) (now (c .before .before .before .before .before .args .rest))
 not-start c = not-open (c .before .before) ∙ another-kind Start _ _ _ (c .before .has-mark2 .ensures) (c .if2 .left)
-
-has-mark-requires-3 : tie.Need-has-mark-requires-3
-has-mark-requires-3 c κs = search needs
 
 returns-3 : tie.Need-returns-3
 returns-3 c = sym (not-start (c .before .before) ∙ this-kind Commit _ _ _ (c .before .has-mark3 .ensures) (c .if3 .taken))
@@ -48,17 +39,11 @@ returns-3 c = sym (not-start (c .before .before) ∙ this-kind Commit _ _ _ (c .
 not-commit : (c : tie.Else3) → kindAt (now (c .before .before .before .before .before .before .before .args .rest)) ≡ kindAmong (Abort ∷ Wait ∷ Step ∷ Read ∷ Write ∷ []) (now (c .before .before .before .before .before .before .before .args .rest))
 not-commit c = not-start (c .before .before) ∙ another-kind Commit _ _ _ (c .before .has-mark3 .ensures) (c .if3 .left)
 
-has-mark-requires-4 : tie.Need-has-mark-requires-4
-has-mark-requires-4 c κs = search needs
-
 returns-4 : tie.Need-returns-4
 returns-4 c = sym (not-commit (c .before .before) ∙ this-kind Abort _ _ _ (c .before .has-mark4 .ensures) (c .if4 .taken))
 
 not-abort : (c : tie.Else4) → kindAt (now (c .before .before .before .before .before .before .before .before .before .args .rest)) ≡ kindAmong (Wait ∷ Step ∷ Read ∷ Write ∷ []) (now (c .before .before .before .before .before .before .before .before .before .args .rest))
 not-abort c = not-commit (c .before .before) ∙ another-kind Abort _ _ _ (c .before .has-mark4 .ensures) (c .if4 .left)
-
-has-mark-requires-5 : tie.Need-has-mark-requires-5
-has-mark-requires-5 c κs = search needs
 
 returns-5 : tie.Need-returns-5
 returns-5 c = sym (not-abort (c .before .before) ∙ this-kind Wait _ _ _ (c .before .has-mark5 .ensures) (c .if5 .taken))
@@ -66,26 +51,17 @@ returns-5 c = sym (not-abort (c .before .before) ∙ this-kind Wait _ _ _ (c .be
 not-wait : (c : tie.Else5) → kindAt (now (c .before .before .before .before .before .before .before .before .before .before .before .args .rest)) ≡ kindAmong (Step ∷ Read ∷ Write ∷ []) (now (c .before .before .before .before .before .before .before .before .before .before .before .args .rest))
 not-wait c = not-abort (c .before .before) ∙ another-kind Wait _ _ _ (c .before .has-mark5 .ensures) (c .if5 .left)
 
-has-mark-requires-6 : tie.Need-has-mark-requires-6
-has-mark-requires-6 c κs = search needs
-
 returns-6 : tie.Need-returns-6
 returns-6 c = sym (not-wait (c .before .before) ∙ this-kind Step _ _ _ (c .before .has-mark6 .ensures) (c .if6 .taken))
 
 not-step : (c : tie.Else6) → kindAt (now (c .before .before .before .before .before .before .before .before .before .before .before .before .before .args .rest)) ≡ kindAmong (Read ∷ Write ∷ []) (now (c .before .before .before .before .before .before .before .before .before .before .before .before .before .args .rest))
 not-step c = not-wait (c .before .before) ∙ another-kind Step _ _ _ (c .before .has-mark6 .ensures) (c .if6 .left)
 
-has-mark-requires-7 : tie.Need-has-mark-requires-7
-has-mark-requires-7 c κs = search needs
-
 returns-7 : tie.Need-returns-7
 returns-7 c = sym (not-step (c .before .before) ∙ this-kind Read _ _ _ (c .before .has-mark7 .ensures) (c .if7 .taken))
 
 not-read : (c : tie.Else7) → kindAt (now (c .before .before .before .before .before .before .before .before .before .before .before .before .before .before .before .args .rest)) ≡ kindAmong (Write ∷ []) (now (c .before .before .before .before .before .before .before .before .before .before .before .before .before .before .before .args .rest))
 not-read c = not-step (c .before .before) ∙ another-kind Read _ _ _ (c .before .has-mark7 .ensures) (c .if7 .left)
-
-has-mark-requires-8 : tie.Need-has-mark-requires-8
-has-mark-requires-8 c κs = search needs
 
 returns-8 : tie.Need-returns-8
 returns-8 c = sym (not-read (c .before .before) ∙ this-kind Write _ _ _ (c .before .has-mark8 .ensures) (c .if8 .taken))
@@ -98,20 +74,20 @@ pub kind-at-spec : {M : Type 1} → statement M
 kind-at-spec =
     tie.close
     (tie.spec
-    has-mark-requires
+    (λ c κs. search needs)
     returns
-    has-mark-requires-2
+    (λ c κs. search needs)
     returns-2
-    has-mark-requires-3
+    (λ c κs. search needs)
     returns-3
-    has-mark-requires-4
+    (λ c κs. search needs)
     returns-4
-    has-mark-requires-5
+    (λ c κs. search needs)
     returns-5
-    has-mark-requires-6
+    (λ c κs. search needs)
     returns-6
-    has-mark-requires-7
+    (λ c κs. search needs)
     returns-7
-    has-mark-requires-8
+    (λ c κs. search needs)
     returns-8
     returns-9)

@@ -5,15 +5,9 @@ use Rattle.session.specs.Session.{placed}
 use Rattle.session.proofs.placed.Statement.{statement}
 use Rattle.session.proofs.placed.Tie as tie
 
-is-misplaced-requires : tie.Need-is-misplaced-requires
-is-misplaced-requires c κs = search needs
-
 returns : tie.Need-returns
 unfolding placed
 returns c = rw (← c .before .is-misplaced .ensures, c .if1 .taken)
-
-record-length-requires : tie.Need-record-length-requires
-record-length-requires c κs = search needs
 
 returns-2 : tie.Need-returns-2
 unfolding placed
@@ -27,4 +21,4 @@ returns-3 c =
 
 pub placed-spec : {M : Type 1} → statement M
 placed-spec =
-    tie.close (tie.spec is-misplaced-requires returns record-length-requires returns-2 returns-3)
+    tie.close (tie.spec (λ c κs. search needs) returns (λ c κs. search needs) returns-2 returns-3)

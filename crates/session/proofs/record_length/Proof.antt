@@ -6,9 +6,6 @@ use Rattle.session.specs.Session.{Kind, Open, Start, Commit, Abort, Wait
 use Rattle.session.proofs.record_length.Statement.{statement}
 use Rattle.session.proofs.record_length.Tie as tie
 
-body-length-requires : tie.Need-body-length-requires
-body-length-requires c κs = search needs
-
 at-most-nine : (k : Kind) → bodyLength k ≤ 9
 at-most-nine Open = omega arith
 at-most-nine Start = omega arith
@@ -22,8 +19,5 @@ at-most-nine Write = omega arith
 add-result : tie.Need-add-result
 add-result c = record { fits = omega (arith, c .body-length .ensures, at-most-nine (c .before .args .kind)) }
 
-returns : tie.Need-returns
-returns c = search needs
-
 pub record-length-spec : {M : Type 1} → statement M
-record-length-spec = tie.close (tie.spec body-length-requires add-result returns)
+record-length-spec = tie.close (tie.spec (λ c κs. search needs) add-result (λ c. search needs))

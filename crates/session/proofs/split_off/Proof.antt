@@ -8,15 +8,9 @@ use Rattle.session.specs.Session.{marked, kindAt, split}
 use Rattle.session.proofs.split_off.Statement.{statement}
 use Rattle.session.proofs.split_off.Tie as tie
 
-is-too-long-requires : tie.Need-is-too-long-requires
-is-too-long-requires c κs = search needs
-
 returns : tie.Need-returns
 unfolding split
 returns c = rw (← c .before .is-too-long .ensures, c .if1 .taken)
-
-is-over-requires : tie.Need-is-over-requires
-is-over-requires c κs = search needs
 
 returns-2 : tie.Need-returns-2
 unfolding split
@@ -35,20 +29,11 @@ unfolding split
 at-mark c =
     rw (← c .before .before .before .before .is-too-long .ensures, c .before .before .before .if1 .left, ← c .before .before .is-over .ensures, c .before .if2 .left, le-ltb _ _ (c .if3 .left))
 
-kind-at-requires : tie.Need-kind-at-requires
-kind-at-requires c κs = search needs
-
-enum-known-kind : tie.Need-enum-known-kind
-enum-known-kind c = search needs
-
 enum-told : tie.Need-enum-told
 enum-told c = search needs
 
 returns-4 : tie.Need-returns-4
 returns-4 c = rw (at-mark (c .before .before .before), ← c .before .before .kind-at .ensures, c .enum-told .given .1)
-
-placed-requires : tie.Need-placed-requires
-placed-requires c κs = search needs
 
 returns-5 : tie.Need-returns-5
 returns-5 c = rw (at-mark (c .before .before .before .before .before), ← c .before .before .before .before .kind-at .ensures, c .before .before .kind .given .1) (c .placed .ensures)
@@ -57,14 +42,14 @@ pub split-off-spec : {M : Type 1} → statement M
 split-off-spec =
     tie.close
     (tie.spec
-    is-too-long-requires
+    (λ c κs. search needs)
     returns
-    is-over-requires
+    (λ c κs. search needs)
     returns-2
     returns-3
-    kind-at-requires
-    enum-known-kind
+    (λ c κs. search needs)
+    (λ c. search needs)
     enum-told
     returns-4
-    placed-requires
+    (λ c κs. search needs)
     returns-5)

@@ -1,4 +1,4 @@
--- `play::put_board` meets its contract: the lines of the addresses passed are those of the definition below the address.
+-- `play::board::put_board` meets its contract: the lines of the addresses passed are those of the definition below the address.
 use Prim.Native.Nat.{ℕ, _+_, _*_, _-_, _<_, _≤_}
 use mathlib.Core.Path.{_≡_, refl, subst, _∙_}
 use mathlib.Core.List.{List}
@@ -10,21 +10,22 @@ use Rattle.memory.specs.declared.Sizes.{Sizes}
 use Rattle.memory.specs.Pieces.{Memory, memory}
 use Rattle.text.specs.Text.{Put}
 use Rattle.text.proofs.Laws.{follow}
+use Rattle.play.specs.Contract.{wordLineRoom}
 use Rattle.play.specs.Play.{shown, wordLines}
 use Rattle.play.proofs.Puts.{put-none, wider}
-use Rattle.play.proofs.put_board.Statement.{statement}
-use Rattle.play.proofs.put_board.Tie as tie
+use Rattle.play.proofs.board.put_board.Statement.{statement}
+use Rattle.play.proofs.board.put_board.Tie as tie
 
 -- the lines of the addresses that were passed
 record Board (z : Sizes) (v : ℕ) (m : Memory) (out₀ : List ℕ) (at count : ℕ) (out : List ℕ) (next address : ℕ) : Type 0 where
-  lines : Put (35 * address) out₀ at (wordLines z v m address) out next
+  lines : Put (wordLineRoom * address) out₀ at (wordLines z v m address) out next
   up-to : address ≤ count
   words : count ≡ z .words
   same : length out ≡ length out₀
 
 one-more : (z : Sizes) (v : ℕ) (m : Memory) (out₀ : List ℕ) (at count : ℕ) (out : List ℕ) (next address : ℕ) (left : List ℕ) (end : ℕ)
     → Board z v m out₀ at count out next address → address < count → length left ≡ length out
-    → Put 35 out next (shown z v m address) left end → Board z v m out₀ at count left end (address + 1)
+    → Put wordLineRoom out next (shown z v m address) left end → Board z v m out₀ at count left end (address + 1)
 unfolding wordLines
 one-more z v m out₀ at count out next address left end b h k p =
     record {
@@ -35,10 +36,10 @@ one-more z v m out₀ at count out next address left end b h k p =
     }
 
 all-lines : (z : Sizes) (v : ℕ) (m : Memory) (out₀ : List ℕ) (at count : ℕ) (out : List ℕ) (next address : ℕ)
-    → Board z v m out₀ at count out next address → count ≤ address → Put (35 * z .words) out₀ at (wordLines z v m (z .words)) out next
+    → Board z v m out₀ at count out next address → count ≤ address → Put (wordLineRoom * z .words) out₀ at (wordLines z v m (z .words)) out next
 all-lines z v m out₀ at count out next address b h =
     let last : address ≡ z .words = omega (arith, b .up-to, b .words) in
-    subst (λ (n : ℕ). Put (35 * n) out₀ at (wordLines z v m n) out next) last (b .lines)
+    subst (λ (n : ℕ). Put (wordLineRoom * n) out₀ at (wordLines z v m n) out next) last (b .lines)
 
 abbrev Inv-loop : tie.InvT-loop
 Inv-loop sizes first words records places entries out₀ at count next₀ address₀ out next address =
@@ -52,21 +53,9 @@ loop-holds : tie.Need-loop-holds Inv-loop μ-loop
 unfolding wordLines
 loop-holds c = record { lines = put-none 0 _ _; up-to = omega arith; words = refl; same = refl }
 
-put-word-requires : tie.Need-put-word-requires Inv-loop μ-loop
-put-word-requires c κs = search needs
-
-add-address : tie.Need-add-address Inv-loop μ-loop
-add-address c = search needs
-
-loop-less : tie.Need-loop-less Inv-loop μ-loop
-loop-less c = search needs
-
 loop-again : tie.Need-loop-again Inv-loop μ-loop
 loop-again c =
     one-more _ _ _ _ _ _ _ _ _ _ _ (c .before .before .before .before .before .loop .inv) (c .before .before .before .before .loop-test .taken) (c .before .before .put-word .kept .1 .1 .1 .1 .1 .1 .1 .0) (c .before .before .put-word .ensures)
-
-same-length : tie.Need-same-length Inv-loop μ-loop
-same-length c = search needs
 
 returns : tie.Need-returns Inv-loop μ-loop
 returns c = all-lines _ _ _ _ _ _ _ _ _ (c .before .loop .inv) (c .loop-test .left)
@@ -78,9 +67,9 @@ put-board-spec =
     Inv-loop
     μ-loop
     loop-holds
-    put-word-requires
-    add-address
-    loop-less
+    (λ c κs. search needs)
+    (λ c. search needs)
+    (λ c. search needs)
     loop-again
-    same-length
+    (λ c. search needs)
     returns)

@@ -1,4 +1,4 @@
--- `play::put_word` meets its contract: the line of an address, if it was changed.
+-- `play::board::put_word` meets its contract: the line of an address, if it was changed.
 use Prim.Native.Nat.{ℕ}
 use mathlib.Core.Path.{_≡_, sym, _∙_}
 use mathlib.Core.List.{[]}
@@ -10,10 +10,11 @@ use Rattle.memory.specs.declared.Looked.{Looked}
 use Rattle.memory.specs.Pieces.{Memory}
 use Rattle.memory.specs.Requests.{look}
 use Rattle.text.specs.Text.{wordLine}
+use Rattle.play.specs.Contract.{wordLineRoom}
 use Rattle.play.specs.Play.{shown}
 use Rattle.play.proofs.Puts.{put-none}
-use Rattle.play.proofs.put_word.Statement.{statement}
-use Rattle.play.proofs.put_word.Tie as tie
+use Rattle.play.proofs.board.put_word.Statement.{statement}
+use Rattle.play.proofs.board.put_word.Tie as tie
 
 -- what is shown of an address that was looked up
 module _ (z : Sizes) (v : ℕ) (m : Memory) (a : ℕ) (l : Looked) (is : l ≡ look z m a) where
@@ -25,24 +26,9 @@ module _ (z : Sizes) (v : ℕ) (m : Memory) (a : ℕ) (l : Looked) (is : l ≡ l
   unfolding shown
   changed e = rw (← is, e)
 
-look-requires : tie.Need-look-requires
-look-requires c κs = search needs
-
-is-first-requires : tie.Need-is-first-requires
-is-first-requires c κs = search needs
-
 returns : tie.Need-returns
 returns c =
-    rw (unchanged _ _ _ _ _ (c .before .before .look .ensures) (sym (c .before .is-first .ensures) ∙ c .if1 .taken)) (put-none 35 _ _)
-
-cast-put-word-line : tie.Need-cast-put-word-line
-cast-put-word-line c = search needs
-
-put-word-line-requires : tie.Need-put-word-line-requires
-put-word-line-requires c κs = search needs
-
-same-length : tie.Need-same-length
-same-length c = search needs
+    rw (unchanged _ _ _ _ _ (c .before .before .look .ensures) (sym (c .before .is-first .ensures) ∙ c .if1 .taken)) (put-none wordLineRoom _ _)
 
 returns-2 : tie.Need-returns-2
 returns-2 c =
@@ -52,10 +38,10 @@ pub put-word-spec : {M : Type 1} → statement M
 put-word-spec =
     tie.close
     (tie.spec
-    look-requires
-    is-first-requires
+    (λ c κs. search needs)
+    (λ c κs. search needs)
     returns
-    cast-put-word-line
-    put-word-line-requires
-    same-length
+    (λ c. search needs)
+    (λ c κs. search needs)
+    (λ c. search needs)
     returns-2)

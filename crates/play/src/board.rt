@@ -1,0 +1,82 @@
+// The lines of the board: one for each address that was changed, ascending.
+ghost use mathlib.Core.Path.{_≡_};
+ghost use mathlib.Core.Bool.{_&&_};
+ghost use Prim.Native.Nat.{_*_, _<_};
+ghost use lib.Dec.{eqb};
+ghost use Rattle.memory.specs.Pieces.{memory};
+ghost use Rattle.text.specs.Text.{Put};
+ghost use Rattle.play.specs.Play as spec;
+ghost use Rattle.play.specs.Contract.{wordLineRoom};
+use memory::Looked;
+use memory::Sizes;
+
+// Nothing was written to the address since the opening.
+fn is_first(seen: Looked, first: u32) -> bool
+    ensures { λ r. ⌜ r ≡ (eqb (seen .value) 0 && eqb (seen .version) first) ⌝ }
+{
+    if seen.value == 0 {
+        seen.version == first
+    } else {
+        false
+    }
+}
+
+// Puts the line of an address, if it has one.
+fn put_word(
+    sizes: Sizes,
+    first: u32,
+    words: &[u32],
+    records: &[u32],
+    places: &[[u32; 3]],
+    entries: &[[u32; 5]],
+    address: usize,
+    out: &mut [u8],
+    at: usize,
+) -> usize
+    requires { ⌜ (address < 65536) × (at < 1000000000) ⌝ }
+    ensures { λ r. ⌜ Put wordLineRoom (now (out .entry)) at
+        (spec.shown sizes first (memory (now (words .entry)) (now (records .entry)) (now (places .entry)) (now (entries .entry))) address)
+        (now (out .exit)) r ⌝ }
+{
+    let seen = calls::look(sizes, words, records, places, entries, address);
+    if is_first(seen, first) {
+        return at;
+    }
+    text::put_word_line(out, at, address as u32, seen.value, seen.version)
+}
+
+// Puts the lines of the board, in ascending order of the addresses.
+pub fn put_board(
+    sizes: Sizes,
+    first: u32,
+    words: &[u32],
+    records: &[u32],
+    places: &[[u32; 3]],
+    entries: &[[u32; 5]],
+    out: &mut [u8],
+    at: usize,
+) -> usize
+    requires { ⌜ (sizes .words < 65536) × (at < 2000000) ⌝ }
+    ensures { λ r. ⌜ Put (wordLineRoom * sizes .words) (now (out .entry)) at
+        (spec.wordLines sizes first (memory (now (words .entry)) (now (records .entry)) (now (places .entry)) (now (entries .entry))) (sizes .words))
+        (now (out .exit)) r ⌝ }
+{
+    let count = sizes.words;
+    let mut next = at;
+    let mut address: usize = 0;
+    while address < count {
+        next = put_word(
+            sizes,
+            first,
+            words,
+            records,
+            places,
+            entries,
+            address,
+            out,
+            next,
+        );
+        address = address + 1;
+    }
+    next
+}
