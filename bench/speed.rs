@@ -1,0 +1,175 @@
+//! The benchmark. It measures everything in one run and writes docs/SPEED.md and docs/speed.svg.
+
+mod cases;
+mod plot;
+#[path = "../tests/second_machine/mod.rs"]
+#[allow(dead_code)]
+mod second_machine;
+
+use cases::{calls, checked_transaction, mutex_transaction, opening, unchecked_transaction, Scene};
+use std::path::Path;
+use std::process::Command;
+
+/// What a command prints, as one line.
+fn said(program: &str, words: &[&str]) -> Option<String> {
+    let output = Command::new(program).args(words).output().ok()?;
+    let text = String::from_utf8_lossy(&output.stdout).trim().to_string();
+    (output.status.success() && !text.is_empty()).then_some(text)
+}
+
+fn machine() -> String {
+    let of = |key: &str| {
+        let all = said("lscpu", &[])?;
+        let line = all.lines().find(|line| line.starts_with(key))?;
+        Some(line[key.len()..].trim().to_string())
+    };
+    let processor = of("Model name:").unwrap_or_else(|| "an unnamed processor".to_string());
+    let cores = std::thread::available_parallelism().map_or(1, usize::from);
+    let load = std::fs::read_to_string("/proc/loadavg").ok().and_then(|l| l.split(' ').next().map(str::to_string));
+    let compiler = |name: &str| said(name, &["--version"]).and_then(|t| t.lines().next().map(str::to_string));
+    format!(
+        "{processor} ({}), {cores} cores, load {} at the start; {}; {}",
+        std::env::consts::ARCH,
+        load.unwrap_or_else(|| "unknown".to_string()),
+        compiler("rustc").unwrap_or_default(),
+        compiler("gcc").unwrap_or_else(|| "no gcc".to_string())
+    )
+}
+
+/// The boards that the page describes.
+struct Boards {
+    small: Scene,
+    evening: Scene,
+    full: Scene,
+    crowded: Scene,
+}
+
+fn boards() -> Boards {
+    Boards {
+        small: Scene::small(),
+        evening: Scene::evening(26),
+        full: Scene::busy(4096, 1024, 32, 64),
+        crowded: Scene::busy(4096, 1, 32, 64),
+    }
+}
+
+fn row(name: &str, checked: [f64; 4], unchecked: f64) -> String {
+    let [small, evening, full, crowded] = checked;
+    format!(
+        "| {name} | {small:.0} | {evening:.0} | {full:.0} | {crowded:.0} | {unchecked:.0} | {:.0} |\n",
+        evening / unchecked
+    )
+}
+
+fn per_call(boards: &Boards) -> String {
+    let all = [&boards.small, &boards.evening, &boards.full, &boards.crowded];
+    let mut rows = String::new();
+    for i in 0..calls(0).len() {
+        let call = |scene: &Scene| calls(scene.addresses[0]).swap_remove(i);
+        eprintln!("bench: {}", call(all[0]).name);
+        let unchecked = call(&boards.evening).unchecked(&boards.evening);
+        rows += &row(call(all[0]).name, all.map(|scene| call(scene).checked(scene)), unchecked);
+    }
+    rows += &row("look", all.map(Scene::look), unchecked_look(&boards.evening));
+    rows + &row("open", all.map(opening), unchecked_opening())
+}
+
+fn unchecked_opening() -> f64 {
+    cases::nanoseconds(|| {
+        std::hint::black_box(second_machine::Machine::opened(std::hint::black_box(160), 160, 32, 1));
+    })
+}
+
+fn unchecked_look(scene: &Scene) -> f64 {
+    let machine = second_machine::tables::load(scene.sizes, &scene.tables).expect("a reached board is sound");
+    cases::nanoseconds(|| {
+        std::hint::black_box(machine.look(std::hint::black_box(scene.addresses[0])));
+    })
+}
+
+/// The contenders take turns, and the fastest turn of each counts. The ratio is to the second machine.
+fn transactions(boards: &Boards) -> String {
+    let itm = Path::new(env!("CARGO_MANIFEST_DIR")).join("../target/embed/bin/itm");
+    let under_itm = || said(itm.to_str()?, &[])?.parse::<f64>().ok();
+    let contenders: [(&str, &dyn Fn() -> Option<f64>); 7] = [
+        ("the library, board of the evening", &|| Some(checked_transaction(&boards.evening))),
+        ("the library, small board", &|| Some(checked_transaction(&boards.small))),
+        ("the library, full board", &|| Some(checked_transaction(&boards.full))),
+        ("the library, crowded board", &|| Some(checked_transaction(&boards.crowded))),
+        ("the second machine, no checks, board of the evening", &|| Some(unchecked_transaction(&boards.evening))),
+        ("a mutex around plain words", &|| Some(mutex_transaction())),
+        ("gcc -fgnu-tm (libitm)", &under_itm),
+    ];
+    const SECOND: usize = 4;
+    let mut best = [f64::INFINITY; 7];
+    for _ in 0..3 {
+        for (fastest, (name, measure)) in best.iter_mut().zip(contenders) {
+            eprintln!("bench: {name}");
+            *fastest = fastest.min(measure().unwrap_or(f64::INFINITY));
+        }
+    }
+    let mut rows = String::new();
+    for (fastest, (name, _)) in best.into_iter().zip(contenders) {
+        if fastest.is_finite() {
+            rows += &format!("| {name} | {fastest:.0} | {:.2} |\n", fastest / best[SECOND]);
+        } else {
+            rows += &format!("| {name} | not installed | - |\n");
+        }
+    }
+    rows
+}
+
+fn growth() -> Vec<plot::Line> {
+    let line = |name, colour, sizes: &[usize], scene: &dyn Fn(usize) -> Scene| {
+        eprintln!("bench: growth with {name}");
+        let points = sizes.iter().map(|&n| (n as f64, scene(n).look())).collect();
+        plot::Line { name, colour, points }
+    };
+    vec![
+        line("entries, one record", "#8a1c3b", &[1, 2, 4, 8, 16, 32, 64], &|n| Scene::busy(4096, 1, 32, n)),
+        line("entries", "#1b6ca8", &[1, 2, 4, 8, 16, 32, 64], &|n| Scene::busy(4096, 1024, 32, n)),
+        line("tasks", "#b5542b", &[1, 2, 4, 8, 16, 32], &|n| Scene::busy(4096, 1024, n, 8)),
+        line("records", "#2e7d4f", &[1, 4, 16, 64, 256, 1024], &|n| Scene::busy(4096, n, 2, 8)),
+        line("words", "#6a4c93", &[128, 256, 512, 1024, 2048, 4096], &|n| Scene::busy(n, 64, 2, 8)),
+    ]
+}
+
+fn growth_in_words(lines: &[plot::Line]) -> String {
+    let mut text = String::new();
+    for line in lines {
+        let figures: Vec<String> = line.points.iter().map(|(n, t)| format!("{n}: {t:.0}")).collect();
+        text += &format!("- {}: {}.\n", line.name, figures.join(", "));
+    }
+    text
+}
+
+fn main() {
+    let docs = Path::new(env!("CARGO_MANIFEST_DIR")).join("../docs");
+    let machine = machine();
+    let boards = boards();
+    let transactions = transactions(&boards);
+    let per_call = per_call(&boards);
+    let usual = boards.evening.look();
+    let lines = growth();
+    let growth = growth_in_words(&lines);
+    let picture = plot::svg(
+        "What one look-up costs, by what stands in the tables",
+        &format!(
+            "Nanoseconds for one look-up, which is the check of the tables and little else. {}",
+            growth.replace("- ", "").replace('\n', " ")
+        ),
+        "how many",
+        "nanoseconds",
+        &lines,
+    );
+    let page = include_str!("SPEED.template.md")
+        .replace("{machine}", &machine)
+        .replace("{transactions}", transactions.trim_end())
+        .replace("{calls}", per_call.trim_end())
+        .replace("{usual}", &format!("{usual:.0}"))
+        .replace("{share}", &format!("{:.1}", usual / 1_000.0))
+        .replace("{growth}", growth.trim_end());
+    std::fs::write(docs.join("speed.svg"), picture).expect("docs/speed.svg can be written");
+    std::fs::write(docs.join("SPEED.md"), &page).expect("docs/SPEED.md can be written");
+    print!("{page}");
+}

@@ -1,0 +1,169 @@
+//! A board that owns its tables, and a handle for each of its tasks.
+
+use crate::numbers::{done, progress, Progress, Refusal};
+use crate::tables::{Sizes, Tables};
+
+/// A board of words that several tasks read and write in transactions.
+///
+/// ```
+/// use chezumobari::{Board, Refusal, Sizes};
+/// let board = Board::open(Sizes { words: 160, records: 160, tasks: 8 }, 1)?;
+/// assert_eq!(board.look(3)?.value, 0);
+/// assert_eq!(board.look(160), Err(Refusal::NoSuchAddress));
+/// assert_eq!(Board::open(Sizes { words: 0, records: 1, tasks: 1 }, 1), Err(Refusal::OutOfRange));
+/// # Ok::<(), Refusal>(())
+/// ```
+#[derive(Clone, Debug, PartialEq, Eq)]
+pub struct Board {
+    sizes: Sizes,
+    tables: Tables,
+}
+
+/// The value and the version at an address.
+#[derive(Clone, Copy, Debug, PartialEq, Eq)]
+pub struct Seen {
+    pub value: u32,
+    pub version: u32,
+}
+
+/// The phase that a task is in.
+#[derive(Clone, Copy, Debug, PartialEq, Eq, Hash)]
+pub enum Phase {
+    Idle,
+    Open,
+    TakingToCommit,
+    TakingToSleep,
+    Asleep,
+    Writing,
+    ReleasingCommitted,
+    ReleasingFailed,
+    ReleasingWoken,
+}
+
+impl Board {
+    /// Opens a board. Every word is 0, every task is idle, and every record has the first version.
+    pub fn open(sizes: Sizes, first_version: u32) -> Result<Board, Refusal> {
+        let mut tables = Tables::for_sizes(sizes);
+        done(tables.open(sizes, first_version).number)?;
+        Ok(Board { sizes, tables })
+    }
+
+    /// A board over tables from elsewhere, as a saved game.
+    /// Nothing is checked here: each call checks, and answers [`Refusal::Unsound`] if they are unsound.
+    pub fn from_tables(sizes: Sizes, tables: Tables) -> Board {
+        Board { sizes, tables }
+    }
+
+    /// The tables, to be saved.
+    pub fn tables(&self) -> &Tables {
+        &self.tables
+    }
+
+    /// The sizes that the board was opened with.
+    pub fn sizes(&self) -> Sizes {
+        self.sizes
+    }
+
+    /// The logical value and version of an address: what committed transactions have left there.
+    pub fn look(&self, address: usize) -> Result<Seen, Refusal> {
+        let looked = self.tables.look(self.sizes, address);
+        done(looked.number)?;
+        Ok(Seen { value: looked.value, version: looked.version })
+    }
+
+    /// A handle for a task. It holds nothing: make it anew for each call, and tasks take turns.
+    /// A task number that is too high is refused by each request.
+    pub fn task(&mut self, task: usize) -> Task<'_> {
+        Task { board: self, task }
+    }
+
+    /// The phase of a task, for a scheduler that passes over sleepers.
+    /// `None` if there is no such task, or its place in unsound tables is no phase.
+    pub fn phase(&self, task: usize) -> Option<Phase> {
+        use Phase::*;
+        let phases = [
+            Idle,
+            Open,
+            TakingToCommit,
+            TakingToSleep,
+            Asleep,
+            Writing,
+            ReleasingCommitted,
+            ReleasingFailed,
+            ReleasingWoken,
+        ];
+        let code = self.tables.places.get(task)?[1];
+        phases.get(code as usize).copied()
+    }
+}
+
+/// One task's transaction.
+///
+/// The handle borrows the board for as long as it is used, so two tasks never act at once:
+///
+/// ```compile_fail
+/// # use chezumobari::{Board, Sizes};
+/// # let mut board = Board::open(Sizes { words: 2, records: 2, tasks: 2 }, 1).unwrap();
+/// let mut one = board.task(0);
+/// let mut other = board.task(1);
+/// one.start();
+/// other.start();
+/// ```
+///
+/// What the transaction has read and written stands in the board, so the handle may be dropped at
+/// any time and made again.
+#[derive(Debug)]
+pub struct Task<'board> {
+    board: &'board mut Board,
+    task: usize,
+}
+
+impl Task<'_> {
+    /// Starts a transaction. The task must be idle.
+    pub fn start(&mut self) -> Result<(), Refusal> {
+        done(self.board.tables.start(self.board.sizes, self.task).number)
+    }
+
+    /// Reads a word: the transaction's own value if it wrote one, else what it saw first.
+    pub fn read(&mut self, address: usize) -> Result<u32, Refusal> {
+        let answer = self.board.tables.read(self.board.sizes, self.task, address);
+        done(answer.number)?;
+        Ok(answer.value)
+    }
+
+    /// Writes a word. Others see it once the transaction has committed.
+    pub fn write(&mut self, address: usize, value: u32) -> Result<(), Refusal> {
+        done(self.board.tables.write(self.board.sizes, self.task, address, value).number)
+    }
+
+    /// Gives the transaction up. Nothing was written.
+    pub fn abort(&mut self) -> Result<(), Refusal> {
+        done(self.board.tables.abort(self.board.sizes, self.task).number)
+    }
+
+    /// Asks to commit. The task's steps then do it, or fail.
+    pub fn commit(&mut self) -> Result<(), Refusal> {
+        done(self.board.tables.commit(self.board.sizes, self.task).number)
+    }
+
+    /// Asks to sleep on what was read. The task's steps then do it, or fail.
+    pub fn wait(&mut self) -> Result<(), Refusal> {
+        done(self.board.tables.wait(self.board.sizes, self.task).number)
+    }
+
+    /// One step on the way to commit, to sleep or to the end.
+    pub fn step(&mut self) -> Result<Progress, Refusal> {
+        progress(self.board.tables.step(self.board.sizes, self.task).number)
+    }
+
+    /// Steps until the task sleeps or its transaction has ended. With n entries that is within
+    /// 3n + 3 steps. A game that steps its tasks in turn calls [`Task::step`] instead.
+    pub fn settle(&mut self) -> Result<Progress, Refusal> {
+        loop {
+            match self.step()? {
+                Progress::Going => {}
+                settled => return Ok(settled),
+            }
+        }
+    }
+}

@@ -1,0 +1,155 @@
+//! Tables of any content and length. The second machine reads them in anew for each call.
+
+use crate::random::Random;
+use crate::requests::{asked, some_request, some_task, Met};
+use crate::second_machine::tables::{load, open, store};
+use crate::second_machine::{Machine, TOP_VERSION};
+use chezumobari::{Answer, Looked, Sizes, Tables};
+
+/// A number that sits on some edge of the specification.
+fn edge(random: &mut Random, sizes: Sizes, now: u32) -> u32 {
+    match random.below(16) {
+        0 => 0,
+        1 => 1,
+        2 => 63 + random.below(4) as u32,
+        3 => TOP_VERSION - 1 + random.below(3) as u32,
+        4 => TOP_VERSION + 1 + random.below(sizes.tasks + 1) as u32,
+        5 => sizes.words as u32,
+        6 => u32::MAX,
+        7..=8 => random.below(10) as u32,
+        9..=10 => random.below(sizes.words) as u32,
+        11 => now ^ (1 << random.below(32)),
+        12 => now.wrapping_sub(1),
+        _ => now.wrapping_add(1),
+    }
+}
+
+fn damage(random: &mut Random, sizes: Sizes, tables: &mut Tables) {
+    let spot = match random.below(8) {
+        0 => {
+            let a = random.below(tables.words.len());
+            &mut tables.words[a]
+        }
+        1..=2 => {
+            let r = random.below(tables.records.len());
+            &mut tables.records[r]
+        }
+        3..=4 => {
+            let (t, column) = (random.below(tables.places.len()), random.below(3));
+            &mut tables.places[t][column]
+        }
+        _ => {
+            let (t, i, column) = (random.below(tables.places.len()), random.below(4), random.below(5));
+            &mut tables.entries[64 * t + i][column]
+        }
+    };
+    *spot = edge(random, sizes, *spot);
+}
+
+fn wrong_length(random: &mut Random, tables: &mut Tables) {
+    match random.below(8) {
+        0 => tables.words.push(0),
+        1 => drop(tables.words.pop()),
+        2 => tables.records.push(1),
+        3 => drop(tables.records.pop()),
+        4 => tables.places.push([0; 3]),
+        5 => drop(tables.places.pop()),
+        6 => tables.entries.push([0; 5]),
+        _ => tables.entries.clear(),
+    }
+}
+
+fn wrong_sizes(random: &mut Random, sizes: &mut Sizes) {
+    let spot = match random.below(3) {
+        0 => &mut sizes.words,
+        1 => &mut sizes.records,
+        _ => &mut sizes.tasks,
+    };
+    *spot = match random.below(9) {
+        0 => 0,
+        1 => 33,
+        2 => 1025,
+        3 => 4097,
+        4 => usize::MAX,
+        5 => usize::MAX / 64 + 1,
+        6 => *spot + (1 << 32),
+        7 => *spot + 1,
+        _ => *spot - 1,
+    };
+}
+
+/// One call on tables of any content. The second machine reads them in anew for it.
+fn one_call(random: &mut Random, sizes: Sizes, tables: &mut Tables, met: &mut Met) {
+    let mut expected = tables.clone();
+    let loaded = load(sizes, &expected);
+    if random.once_in(30) {
+        let first = random.one_of(&[0, 1, 5, TOP_VERSION, TOP_VERSION + 1]);
+        assert_eq!(tables.open(sizes, first), Answer { number: open(sizes, first, &mut expected), value: 0 });
+        assert_eq!(*tables, expected);
+        return;
+    }
+    let address = random.below(tables.words.len() + 1);
+    let (number, value, version) = loaded.as_ref().map_or((1, 0, 0), |m| m.look(address));
+    assert_eq!(tables.look(sizes, address), Looked { number, value, version });
+    let task = some_task(random, sizes.tasks.clamp(1, 32));
+    let shape = Sizes { words: tables.words.len().max(1), ..sizes };
+    let blank = Machine::opened(1, 1, 1, 1);
+    let request = some_request(random, loaded.as_ref().unwrap_or(&blank), task, shape);
+    let answer = asked(tables, sizes, task, request);
+    let (number, value) = match loaded {
+        None => (1, 0),
+        Some(mut machine) => {
+            let reply = machine.ask(task, request);
+            store(&machine, &mut expected);
+            reply
+        }
+    };
+    assert_eq!(answer, Answer { number, value }, "{request:?} of task {task} on {sizes:?} {tables:?}");
+    met.note(number);
+    assert_eq!(*tables, expected, "{request:?} of task {task} on {sizes:?}");
+}
+
+#[test]
+fn damaged_tables() {
+    let mut random = Random::from_seed(4);
+    let mut met = Met::default();
+    for _ in 0..15_000 {
+        let sizes = Sizes { words: 1 + random.below(6), records: 1 + random.below(4), tasks: 1 + random.below(3) };
+        let mut tables = Tables::for_sizes(sizes);
+        tables.open(sizes, random.one_of(&[1, 2, TOP_VERSION - 1, TOP_VERSION]));
+        for _ in 0..random.below(60) {
+            one_call(&mut random, sizes, &mut tables, &mut met);
+        }
+        for _ in 0..1 + random.below(3) {
+            damage(&mut random, sizes, &mut tables);
+            for _ in 0..3 {
+                one_call(&mut random, sizes, &mut tables, &mut met);
+            }
+        }
+    }
+    // Some damage is unsound, and some leads to a sound table that no opening reaches.
+    assert!(met.numbers[1] > 10_000 && met.numbers[0] > 10_000);
+}
+
+#[test]
+fn wrong_lengths_and_sizes() {
+    let mut random = Random::from_seed(5);
+    let mut met = Met::default();
+    for _ in 0..20_000 {
+        let mut sizes = Sizes { words: 1 + random.below(6), records: 1 + random.below(4), tasks: 1 + random.below(3) };
+        let mut tables = Tables::for_sizes(sizes);
+        tables.open(sizes, 1);
+        for _ in 0..random.below(12) {
+            one_call(&mut random, sizes, &mut tables, &mut met);
+        }
+        if random.once_in(2) {
+            wrong_length(&mut random, &mut tables);
+        } else {
+            wrong_sizes(&mut random, &mut sizes);
+        }
+        for _ in 0..3 {
+            one_call(&mut random, sizes, &mut tables, &mut met);
+        }
+    }
+    assert!(met.numbers[1] > 10_000);
+}
