@@ -28,11 +28,12 @@ fn machine() -> String {
     let load = std::fs::read_to_string("/proc/loadavg").ok().and_then(|l| l.split(' ').next().map(str::to_string));
     let compiler = |name: &str| said(name, &["--version"]).and_then(|t| t.lines().next().map(str::to_string));
     format!(
-        "{processor} ({}), {cores} cores, load {} at the start; {}; {}",
+        "{processor} ({}), {cores} cores, load {} at the start; {}; {}; {}",
         std::env::consts::ARCH,
         load.unwrap_or_else(|| "unknown".to_string()),
         compiler("rustc").unwrap_or_default(),
-        compiler("gcc").unwrap_or_else(|| "no gcc".to_string())
+        compiler("gcc").unwrap_or_else(|| "no gcc".to_string()),
+        compiler("ghc").unwrap_or_else(|| "no ghc".to_string())
     )
 }
 
@@ -89,19 +90,20 @@ fn unchecked_look(scene: &Scene) -> f64 {
 
 /// The contenders take turns, and the fastest turn of each counts. The ratio is to the second machine.
 fn transactions(boards: &Boards) -> String {
-    let itm = Path::new(env!("CARGO_MANIFEST_DIR")).join("../target/embed/bin/itm");
-    let under_itm = || said(itm.to_str()?, &[])?.parse::<f64>().ok();
-    let contenders: [(&str, &dyn Fn() -> Option<f64>); 7] = [
+    let built = Path::new(env!("CARGO_MANIFEST_DIR")).join("../target/embed/bin");
+    let other = |name: &str| said(built.join(name).to_str()?, &[])?.parse::<f64>().ok();
+    let contenders: [(&str, &dyn Fn() -> Option<f64>); 8] = [
         ("the library, board of the evening", &|| Some(checked_transaction(&boards.evening))),
         ("the library, small board", &|| Some(checked_transaction(&boards.small))),
         ("the library, full board", &|| Some(checked_transaction(&boards.full))),
         ("the library, crowded board", &|| Some(checked_transaction(&boards.crowded))),
         ("the second machine, no checks, board of the evening", &|| Some(unchecked_transaction(&boards.evening))),
         ("a mutex around plain words", &|| Some(mutex_transaction())),
-        ("gcc -fgnu-tm (libitm)", &under_itm),
+        ("gcc -fgnu-tm (libitm)", &|| other("itm")),
+        ("GHC's STM", &|| other("stm")),
     ];
     const SECOND: usize = 4;
-    let mut best = [f64::INFINITY; 7];
+    let mut best = [f64::INFINITY; 8];
     for _ in 0..3 {
         for (fastest, (name, measure)) in best.iter_mut().zip(contenders) {
             eprintln!("bench: {name}");

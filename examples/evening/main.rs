@@ -158,7 +158,10 @@ fn wish() -> Result<Wish, String> {
         let number = |text: String| text.parse::<u64>().map_err(|_| format!("{text} is no number"));
         match word.as_str() {
             "--seed" => wish.seed = number(value()?)?,
-            "--evenings" => wish.evenings = Some(number(value()?)?),
+            "--evenings" => match number(value()?)? {
+                0 => return Err("one evening at the least".to_string()),
+                evenings => wish.evenings = Some(evenings),
+            },
             "--labels" => {
                 wish.cached = match value()?.as_str() {
                     "cached" => true,
