@@ -40,6 +40,7 @@ fn machine() -> String {
 /// The boards that the page describes.
 struct Boards {
     small: Scene,
+    club: Scene,
     evening: Scene,
     full: Scene,
     crowded: Scene,
@@ -48,6 +49,7 @@ struct Boards {
 fn boards() -> Boards {
     Boards {
         small: Scene::small(),
+        club: Scene::busy(256, 64, 8, 8),
         evening: Scene::evening(26),
         full: Scene::busy(4096, 1024, 32, 64),
         crowded: Scene::busy(4096, 1, 32, 64),
@@ -73,6 +75,19 @@ fn per_call(boards: &Boards) -> String {
     }
     rows += &row("look", all.map(Scene::look), unchecked_look(&boards.evening));
     rows + &row("open", all.map(opening), unchecked_opening())
+}
+
+/// The board of the club: each call checked, and on the second machine.
+fn on_the_club(scene: &Scene) -> String {
+    let line = |name: &str, checked: f64, unchecked: f64| {
+        format!("| {name} | {checked:.0} | {unchecked:.0} | {:.0} |\n", checked / unchecked)
+    };
+    let mut rows = String::new();
+    for call in calls(scene.addresses[0]) {
+        eprintln!("bench: {}, board of the club", call.name);
+        rows += &line(call.name, call.checked(scene), call.unchecked(scene));
+    }
+    rows + &line("look", scene.look(), unchecked_look(scene))
 }
 
 fn unchecked_opening() -> f64 {
@@ -151,6 +166,7 @@ fn main() {
     let boards = boards();
     let transactions = transactions(&boards);
     let per_call = per_call(&boards);
+    let club = on_the_club(&boards.club);
     let usual = boards.evening.look();
     let lines = growth();
     let growth = growth_in_words(&lines);
@@ -168,6 +184,7 @@ fn main() {
         .replace("{machine}", &machine)
         .replace("{transactions}", transactions.trim_end())
         .replace("{calls}", per_call.trim_end())
+        .replace("{club}", club.trim_end())
         .replace("{usual}", &format!("{usual:.0}"))
         .replace("{share}", &format!("{:.1}", usual / 1_000.0))
         .replace("{growth}", growth.trim_end());
