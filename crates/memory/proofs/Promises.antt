@@ -1,6 +1,6 @@
 -- The promises of specs/Claims.antt, kept.
-use mathlib.Core.Path.{sym, ap, _∙_}
-use Rattle.memory.specs.{WhatWasSaidWasTheBoard, RunsAreSerial, LooksAreSerial, SoundLasts, ReachedIsSound, RefusalsKeep, RefusedOpeningsKeep, CallsAreNarrow, CommitEnds, CommitIsExact, PositionsHold, OneOutcome, Spoken, Serial, LookedUp, IsSound, Answer, Reply}
+use mathlib.Core.Path.{_≡_, sym, ap, _∙_}
+use Rattle.memory.specs.{WhatWasSaidWasTheBoard, RunsAreSerial, LooksAreSerial, SoundLasts, ReachedIsSound, RefusalsKeep, RefusedOpeningsKeep, CallsAreNarrow, CommitEnds, CommitIsExact, PositionsHold, OneOutcome, Spoken, Serial, LookedUp, IsSound, Memory, Answer, Reply, replied}
 use Rattle.memory.proofs.Serial.{always, serial, looked-up}
 use Rattle.memory.proofs.Spoken.{spoken}
 use Rattle.memory.proofs.SoundLasts.{call-sound}
@@ -42,7 +42,10 @@ pub positions-are-held : PositionsHold
 positions-are-held = positions-hold
 
 pub one-outcome : OneOutcome
-one-outcome specified r s m n p q = (ap (λ (x : Reply). answered x) (p ∙ sym q), ap (λ (x : Reply). x .after) (p ∙ sym q))
+one-outcome = (requested, λ specified r s p q. p ∙ sym q)
   where
     answered : Reply → Answer
     answered x = record { number = x .number; value = x .value }
+
+    requested : (specified : Reply) (r s : Answer) (m n : Memory) → replied r m ≡ specified → replied s n ≡ specified → (r ≡ s) × (m ≡ n)
+    requested specified r s m n p q = (ap (λ (x : Reply). answered x) (p ∙ sym q), ap (λ (x : Reply). x .after) (p ∙ sym q))

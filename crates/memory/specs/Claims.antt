@@ -10,7 +10,7 @@ use Rattle.memory.specs.Pieces.{if_then_else_, Sizes, Commit, Failed, Wo
 use Rattle.memory.specs.Step.{fails, wakes}
 use Rattle.memory.specs.Logical.{logical}
 use Rattle.memory.specs.Sound.{sound}
-use Rattle.memory.specs.Numbers.{Answer, Reply, replied}
+use Rattle.memory.specs.Numbers.{Answer, Looked, Reply, replied}
 use Rattle.memory.specs.Requests.{openBoard, look, looked}
 use Rattle.memory.specs.Calls.{Call, call, asker}
 use Rattle.memory.specs.Calls.Call.{ST, CM, AB, WT, SP, RD, WR}
@@ -180,6 +180,9 @@ CommitIsExact = OfACommit (λ z m t cs. (k : ℕ) → CommitsAt z m t cs k → k
 abbrev pub PositionsHold : Type 0
 PositionsHold = Hold positions
 
--- "Show that any two outcomes allowed by it are equal": of every contract that says `replied r after ≡ what is specified`
+-- "Show that any two outcomes allowed by it are equal": of every contract that says `replied r after ≡ what is specified`, and of the
+-- look-up's, which is lent nothing to write and says `r ≡ what is specified`
 abbrev pub OneOutcome : Type 0
-OneOutcome = (specified : Reply) (r s : Answer) (m n : Memory) → replied r m ≡ specified → replied s n ≡ specified → (r ≡ s) × (m ≡ n)
+OneOutcome =
+    ((specified : Reply) (r s : Answer) (m n : Memory) → replied r m ≡ specified → replied s n ≡ specified → (r ≡ s) × (m ≡ n))
+    × ((specified r s : Looked) → r ≡ specified → s ≡ specified → r ≡ s)
