@@ -1,6 +1,6 @@
 //! What is measured: boards, single calls, and the transaction of 4 reads and 2 writes.
 
-use crate::second_machine::tables::load;
+use crate::second_machine::tables::{ask_library, load};
 use crate::second_machine::{Machine, Request, Task};
 use chezumobari::{Answer, Sizes, Tables};
 use std::hint::black_box;
@@ -29,18 +29,6 @@ pub fn nanoseconds(mut act: impl FnMut()) -> f64 {
     (0..30).map(|_| round(&mut act)).fold(f64::INFINITY, f64::min)
 }
 
-pub fn ask(tables: &mut Tables, sizes: Sizes, task: usize, request: Request) -> Answer {
-    match request {
-        Request::Start => tables.start(sizes, task),
-        Request::Read(address) => tables.read(sizes, task, address),
-        Request::Write(address, value) => tables.write(sizes, task, address, value),
-        Request::Abort => tables.abort(sizes, task),
-        Request::Commit => tables.commit(sizes, task),
-        Request::Wait => tables.wait(sizes, task),
-        Request::Step => tables.step(sizes, task),
-    }
-}
-
 /// A board in some state, and four addresses of it that no task uses.
 pub struct Scene {
     pub sizes: Sizes,
@@ -57,7 +45,7 @@ impl Scene {
     }
 
     fn must(&mut self, task: usize, request: Request) {
-        let number = ask(&mut self.tables, self.sizes, task, request).number;
+        let number = ask_library(&mut self.tables, self.sizes, task, request).number;
         assert!(number == 0 || number == 20, "{request:?} answered {number}");
     }
 
@@ -131,12 +119,12 @@ impl Call {
         let (sizes, address) = (scene.sizes, scene.addresses[0]);
         let mut tables = scene.tables.clone();
         for &request in &self.before {
-            assert_eq!(ask(&mut tables, sizes, TASK, request).number, 0);
+            assert_eq!(ask_library(&mut tables, sizes, TASK, request).number, 0);
         }
         let record = address % sizes.records;
         let (place, held, word) = (tables.places[TASK], tables.records[record], tables.words[address]);
         nanoseconds(|| {
-            black_box(ask(&mut tables, sizes, TASK, black_box(self.request)));
+            black_box(ask_library(&mut tables, sizes, TASK, black_box(self.request)));
             tables.places[TASK] = place;
             tables.records[record] = held;
             tables.words[address] = word;
@@ -200,7 +188,7 @@ pub fn checked_transaction(scene: &Scene) -> f64 {
     nanoseconds(|| {
         value += 1;
         transaction(scene.addresses, value, |request| {
-            let Answer { number, value } = ask(&mut tables, scene.sizes, TASK, request);
+            let Answer { number, value } = ask_library(&mut tables, scene.sizes, TASK, request);
             (number, value)
         });
     })

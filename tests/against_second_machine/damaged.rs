@@ -1,8 +1,8 @@
 //! Tables of any content and length. The second machine reads them in anew for each call.
 
 use crate::random::Random;
-use crate::requests::{asked, some_request, some_task, Met};
-use crate::second_machine::tables::{load, open, store};
+use crate::requests::{some_request, some_task, Met};
+use crate::second_machine::tables::{ask_library, load, open, store};
 use crate::second_machine::{Machine, TOP_VERSION};
 use chezumobari::{Answer, Looked, Sizes, Tables};
 
@@ -95,7 +95,7 @@ fn one_call(random: &mut Random, sizes: Sizes, tables: &mut Tables, met: &mut Me
     let shape = Sizes { words: tables.words.len().max(1), ..sizes };
     let blank = Machine::opened(1, 1, 1, 1);
     let request = some_request(random, loaded.as_ref().unwrap_or(&blank), task, shape);
-    let answer = asked(tables, sizes, task, request);
+    let answer = ask_library(tables, sizes, task, request);
     let (number, value) = match loaded {
         None => (1, 0),
         Some(mut machine) => {

@@ -1,8 +1,8 @@
 //! Tables reached from an opening. The second machine keeps its own state along the schedule.
 
 use crate::random::Random;
-use crate::requests::{asked, some_request, some_task, Met};
-use crate::second_machine::tables::{open, store};
+use crate::requests::{some_request, some_task, Met};
+use crate::second_machine::tables::{ask_library, open, store};
 use crate::second_machine::{Machine, Phase, Request, TOP_VERSION};
 use chezumobari::{Answer, Looked, Sizes, Tables};
 
@@ -35,7 +35,7 @@ fn play(random: &mut Random, sizes: Sizes, first: u32, calls: usize, met: &mut M
                 task = some_task(random, sizes.tasks);
             }
             let request = some_request(random, &machine, task, sizes);
-            let answer = asked(&mut tables, sizes, task, request);
+            let answer = ask_library(&mut tables, sizes, task, request);
             let (number, value) = machine.ask(task, request);
             assert_eq!(answer, Answer { number, value }, "{request:?} of task {task} on {sizes:?}");
             met.note(number);
@@ -96,7 +96,7 @@ fn transactions_of_up_to_64_addresses() {
                 (false, _) if machine.tasks[task].phase == Phase::Idle => Request::Start,
                 (false, _) => Request::Step,
             };
-            let answer = asked(&mut tables, sizes, task, request);
+            let answer = ask_library(&mut tables, sizes, task, request);
             let (number, value) = machine.ask(task, request);
             assert_eq!(answer, Answer { number, value });
             met.note(number);

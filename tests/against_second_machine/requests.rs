@@ -2,19 +2,7 @@
 
 use crate::random::Random;
 use crate::second_machine::{Machine, Phase, Request};
-use chezumobari::{Answer, Sizes, Tables};
-
-pub fn asked(tables: &mut Tables, sizes: Sizes, task: usize, request: Request) -> Answer {
-    match request {
-        Request::Start => tables.start(sizes, task),
-        Request::Read(address) => tables.read(sizes, task, address),
-        Request::Write(address, value) => tables.write(sizes, task, address, value),
-        Request::Abort => tables.abort(sizes, task),
-        Request::Commit => tables.commit(sizes, task),
-        Request::Wait => tables.wait(sizes, task),
-        Request::Step => tables.step(sizes, task),
-    }
-}
+use chezumobari::Sizes;
 
 /// What the schedules have met, so that a test can say that it was not empty.
 #[derive(Default)]

@@ -1,7 +1,7 @@
 //! The second machine's state, read from the four tables and written to them.
 
-use super::{End, Goal, Machine, Mark, Phase, Record, Task, Use, RUN, TOP_VERSION};
-use chezumobari::{Sizes, Tables};
+use super::{End, Goal, Machine, Mark, Phase, Record, Request, Task, Use, RUN, TOP_VERSION};
+use chezumobari::{Answer, Sizes, Tables};
 use std::collections::{HashMap, HashSet};
 
 fn sizes_are_in_range(sizes: Sizes) -> bool {
@@ -13,6 +13,19 @@ fn lengths_fit(sizes: Sizes, tables: &Tables) -> bool {
         && tables.records.len() == sizes.records
         && tables.places.len() == sizes.tasks
         && tables.entries.len() == sizes.tasks * RUN
+}
+
+/// The same request of the library, to be compared with the machine's.
+pub fn ask_library(tables: &mut Tables, sizes: Sizes, task: usize, request: Request) -> Answer {
+    match request {
+        Request::Start => tables.start(sizes, task),
+        Request::Read(address) => tables.read(sizes, task, address),
+        Request::Write(address, value) => tables.write(sizes, task, address, value),
+        Request::Abort => tables.abort(sizes, task),
+        Request::Commit => tables.commit(sizes, task),
+        Request::Wait => tables.wait(sizes, task),
+        Request::Step => tables.step(sizes, task),
+    }
 }
 
 /// Opening: the number, and the tables if it is 0.
