@@ -50,7 +50,7 @@ pub fn start(
     if !sound::is_sound(sizes, words, records, places, entries) {
         return refused(UNSOUND);
     }
-    requests::start_sound(sizes, words, records, places, entries, task)
+    phases::start_sound(sizes, words, records, places, entries, task)
 }
 
 // Abort: Open to Idle, entries dropped.
@@ -68,7 +68,7 @@ pub fn abort(
     if !sound::is_sound(sizes, words, records, places, entries) {
         return refused(UNSOUND);
     }
-    requests::abort_sound(sizes, words, records, places, entries, task)
+    phases::abort_sound(sizes, words, records, places, entries, task)
 }
 
 // Commit: Open to Taking (commit) at 0. No entries is allowed.
@@ -86,7 +86,7 @@ pub fn commit(
     if !sound::is_sound(sizes, words, records, places, entries) {
         return refused(UNSOUND);
     }
-    requests::commit_sound(sizes, words, records, places, entries, task)
+    phases::commit_sound(sizes, words, records, places, entries, task)
 }
 
 // Wait: Open to Taking (sleep) at 0.
@@ -104,7 +104,7 @@ pub fn wait(
     if !sound::is_sound(sizes, words, records, places, entries) {
         return refused(UNSOUND);
     }
-    requests::wait_sound(sizes, words, records, places, entries, task)
+    phases::wait_sound(sizes, words, records, places, entries, task)
 }
 
 // Read: the value that the transaction finds at an address.
@@ -123,7 +123,7 @@ pub fn read(
     if !sound::is_sound(sizes, words, records, places, entries) {
         return refused(UNSOUND);
     }
-    requests::read_sound(sizes, words, records, places, entries, task, address)
+    operations::read_sound(sizes, words, records, places, entries, task, address)
 }
 
 // Write: the value that the transaction leaves at an address.
@@ -143,7 +143,7 @@ pub fn write(
     if !sound::is_sound(sizes, words, records, places, entries) {
         return refused(UNSOUND);
     }
-    requests::write_sound(sizes, words, records, places, entries, task, address, value)
+    operations::write_sound(sizes, words, records, places, entries, task, address, value)
 }
 
 // Step: one step of a task that takes, writes, releases or sleeps.

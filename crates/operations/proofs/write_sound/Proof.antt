@@ -1,4 +1,4 @@
--- `requests::write_sound` meets its contract: each way that an access goes on is one of the cases.
+-- `operations::write_sound` meets its contract: each way that an access goes on is one of the cases.
 use mathlib.Core.Path.{_≡_, sym, ap, _∙_, subst}
 use native.Mathlib.Omega.{arith}
 use Rattle.memory.specs.declared.Place.{Place}
@@ -9,10 +9,10 @@ use Rattle.access.specs.declared.Access.{Access}
 use Rattle.access.specs.declared.Access.the-variants.{Known, New}
 use Rattle.access.specs.Contract.{Accesses}
 use Rattle.descriptor.proofs.Entries.{within}
-use Rattle.requests.proofs.Reached.{write-known, write-new, addable}
+use Rattle.operations.proofs.Reached.{write-known, write-new, addable}
 use borrow.Author.Needs.{needs}
-use Rattle.requests.proofs.write_sound.Statement.{statement}
-use Rattle.requests.proofs.write_sound.Tie as tie
+use Rattle.operations.proofs.write_sound.Statement.{statement}
+use Rattle.operations.proofs.write_sound.Tie as tie
 
 abbrev table : tie.Start → Memory
 table s = memory (s .args .words .now) (s .args .records .now) (s .args .places .now) (s .args .entries .now)

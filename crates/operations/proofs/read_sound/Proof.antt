@@ -1,4 +1,4 @@
--- `requests::read_sound` meets its contract: each way that an access goes on is one of the cases.
+-- `operations::read_sound` meets its contract: each way that an access goes on is one of the cases.
 use mathlib.Core.Path.{_≡_, sym, ap, _∙_, subst}
 use Rattle.memory.specs.Pieces.{Memory, memory}
 use Rattle.memory.specs.Numbers.{reply}
@@ -7,10 +7,10 @@ use Rattle.memory.proofs.Facts.{in-places}
 use Rattle.access.specs.declared.Access.{Access}
 use Rattle.access.specs.declared.Access.the-variants.{Known, New}
 use Rattle.access.specs.Contract.{Accesses}
-use Rattle.requests.proofs.Reached.{read-known, read-new, addable}
+use Rattle.operations.proofs.Reached.{read-known, read-new, addable}
 use borrow.Author.Needs.{needs}
-use Rattle.requests.proofs.read_sound.Statement.{statement}
-use Rattle.requests.proofs.read_sound.Tie as tie
+use Rattle.operations.proofs.read_sound.Statement.{statement}
+use Rattle.operations.proofs.read_sound.Tie as tie
 
 abbrev table : tie.Start → Memory
 table s = memory (s .args .words .now) (s .args .records .now) (s .args .places .now) (s .args .entries .now)

@@ -1,12 +1,12 @@
--- `requests::write_new` meets its contract: by the entry's old version.
+-- `operations::write_new` meets its contract: by the entry's old version.
 use mathlib.Core.Path.{sym, ap, _∙_}
 use mathlib.Core.List.{[]}
 use native.Mathlib.Numerals.{add-one}
 use Rattle.memory.specs.Pieces.{Memory, setPlace, setEntry}
-use Rattle.requests.proofs.Reached.{store-8, store-grown}
+use Rattle.operations.proofs.Reached.{store-8, store-grown}
 use borrow.Author.Needs.{needs}
-use Rattle.requests.proofs.write_new.Statement.{statement}
-use Rattle.requests.proofs.write_new.Tie as tie
+use Rattle.operations.proofs.write_new.Statement.{statement}
+use Rattle.operations.proofs.write_new.Tie as tie
 
 returns : tie.Need-returns
 returns c = λ ws rs. c .without-value .ensures _ ∙ sym (store-8 _ _ _ _ _ _ _ _ (sym (c .before .before .at-top .ensures) ∙ c .before .if1 .taken))

@@ -1,4 +1,4 @@
--- `requests::start_sound` meets its contract: refused by number, or the place of a task that is Idle, stored anew.
+-- `phases::start_sound` meets its contract: refused by number, or the place of a task that is Idle, stored anew.
 use mathlib.Core.Path.{_≡_, sym, _∙_, subst}
 use native.Mathlib.Omega.{arith}
 use Rattle.memory.specs.Pieces.{Memory, memory, isIdle}
@@ -7,8 +7,8 @@ use Rattle.memory.proofs.Facts.{places-length, in-places}
 use Rattle.descriptor.specs.declared.Permit.{Permit}
 use Rattle.descriptor.specs.Contract.{Permits}
 use borrow.Author.Needs.{needs}
-use Rattle.requests.proofs.start_sound.Statement.{statement}
-use Rattle.requests.proofs.start_sound.Tie as tie
+use Rattle.phases.proofs.start_sound.Statement.{statement}
+use Rattle.phases.proofs.start_sound.Tie as tie
 
 abbrev table : tie.Start → Memory
 table s = memory (s .args .words .now) (s .args .records .now) (s .args .places .now) (s .args .entries .now)

@@ -1,10 +1,10 @@
--- `requests::write_known` meets its contract: by the entry's old version.
+-- `operations::write_known` meets its contract: by the entry's old version.
 use mathlib.Core.Path.{sym, ap, _∙_}
 use Rattle.memory.specs.Numbers.{reply}
-use Rattle.requests.proofs.Reached.{store-8, store-0}
+use Rattle.operations.proofs.Reached.{store-8, store-0}
 use borrow.Author.Needs.{needs}
-use Rattle.requests.proofs.write_known.Statement.{statement}
-use Rattle.requests.proofs.write_known.Tie as tie
+use Rattle.operations.proofs.write_known.Statement.{statement}
+use Rattle.operations.proofs.write_known.Tie as tie
 
 returns : tie.Need-returns
 returns c = λ ws rs ps. c .without-value .ensures _ ∙ sym (store-8 _ _ _ _ _ _ _ _ (sym (c .before .before .at-top .ensures) ∙ c .before .if1 .taken))

@@ -1,8 +1,8 @@
--- `requests::placed` meets its contract: the row that was stored is the place's.
+-- `phases::placed` meets its contract: the row that was stored is the place's.
 use Rattle.memory.specs.Pieces.{setPlace}
 use borrow.Author.Needs.{needs}
-use Rattle.requests.proofs.placed.Statement.{statement}
-use Rattle.requests.proofs.placed.Tie as tie
+use Rattle.phases.proofs.placed.Statement.{statement}
+use Rattle.phases.proofs.placed.Tie as tie
 
 returns : tie.Need-returns
 unfolding setPlace

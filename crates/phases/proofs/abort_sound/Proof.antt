@@ -1,4 +1,4 @@
--- `requests::abort_sound` meets its contract: refused by number, or the transaction ends.
+-- `phases::abort_sound` meets its contract: refused by number, or the transaction ends.
 use mathlib.Core.Path.{_≡_, sym, _∙_, subst}
 use Rattle.memory.specs.Pieces.{Memory, memory, isOpen}
 use Rattle.memory.specs.Requests.{abort}
@@ -6,8 +6,8 @@ use Rattle.memory.proofs.Facts.{places-length, in-places}
 use Rattle.descriptor.specs.declared.Permit.{Permit}
 use Rattle.descriptor.specs.Contract.{Permits}
 use borrow.Author.Needs.{needs}
-use Rattle.requests.proofs.abort_sound.Statement.{statement}
-use Rattle.requests.proofs.abort_sound.Tie as tie
+use Rattle.phases.proofs.abort_sound.Statement.{statement}
+use Rattle.phases.proofs.abort_sound.Tie as tie
 
 abbrev table : tie.Start → Memory
 table s = memory (s .args .words .now) (s .args .records .now) (s .args .places .now) (s .args .entries .now)
