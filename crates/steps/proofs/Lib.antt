@@ -1,4 +1,3 @@
 -- Laws that the proofs share.
 mod Passed
-mod Parts
 mod Whole

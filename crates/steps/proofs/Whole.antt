@@ -20,9 +20,10 @@ use Rattle.memory.specs.Step.{stepIn, step}
 use Rattle.memory.specs.Sound.{sound}
 use Rattle.memory.proofs.Cases.{asked-0, asked-3, asked-4}
 use Rattle.memory.proofs.Facts.{count-most, position-n}
+use Rattle.ownership.specs.Contract.{Among, Entered, Leaves, takes, writes, releases}
+use Rattle.ownership.proofs.Parts.{row-is, stays}
 use Rattle.steps.specs.declared.Moved.{Moved}
-use Rattle.steps.specs.Contract.{Among, Entered, Ready, Stepped, Decided, Leaves, goesTo, endsBy, takes, writes, releases}
-use Rattle.steps.proofs.Parts.{row-is, stays}
+use Rattle.steps.specs.Contract.{Ready, Stepped, Decided, goesTo, endsBy}
 
 -- The request -------------------------------------------------------------------------------------------------------------------
 

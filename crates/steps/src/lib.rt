@@ -13,8 +13,6 @@ use memory::Phase;
 use memory::Place;
 use memory::Sizes;
 
-mod over_entry;
-
 // A task's place after a step, and what the step answers.
 struct Moved {
     place: Place,
@@ -84,7 +82,7 @@ fn advance(
     match phase {
         Phase::Taking(goal, i) => {
             if i < count {
-                let next = over_entry::take(goal, i, sizes, records, places, entries, task);
+                let next = ownership::take(goal, i, sizes, records, places, entries, task);
                 goes(place, next, 0)
             } else {
                 decide(place, goal)
@@ -92,7 +90,7 @@ fn advance(
         }
         Phase::Writing(i) => {
             if i < count {
-                let next = over_entry::write(i, sizes, words, entries, task);
+                let next = ownership::write(i, sizes, words, entries, task);
                 goes(place, next, 0)
             } else {
                 goes(place, Phase::Releasing(Outcome::Committed, 0), 0)
@@ -100,7 +98,7 @@ fn advance(
         }
         Phase::Releasing(outcome, i) => {
             if i < count {
-                let next = over_entry::release(outcome, i, sizes, records, entries, task);
+                let next = ownership::release(outcome, i, sizes, records, entries, task);
                 goes(place, next, 0)
             } else {
                 end(outcome)

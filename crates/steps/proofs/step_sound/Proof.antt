@@ -3,8 +3,9 @@ use denote.Ref.{now}
 use native.Mathlib.Omega.{arith}
 use borrow.Author.Needs.{needs}
 use Rattle.memory.specs.Pieces.{memory, place, limit}
-use Rattle.steps.specs.Contract.{Among, Ready}
-use Rattle.steps.proofs.Parts.{few-tasks, place-in}
+use Rattle.ownership.specs.Contract.{Among}
+use Rattle.ownership.proofs.Parts.{few-tasks, place-in}
+use Rattle.steps.specs.Contract.{Ready}
 use Rattle.steps.proofs.Whole.{no-task, stored}
 use Rattle.steps.proofs.step_sound.Statement.{statement}
 use Rattle.steps.proofs.step_sound.Tie as tie

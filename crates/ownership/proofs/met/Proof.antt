@@ -1,7 +1,7 @@
--- `steps::over_entry::met` meets its contract, phase by phase.
+-- `ownership::met` meets its contract, phase by phase.
 use borrow.Author.Needs.{needs}
-use Rattle.steps.proofs.over_entry.met.Statement.{statement}
-use Rattle.steps.proofs.over_entry.met.Tie as tie
+use Rattle.ownership.proofs.met.Statement.{statement}
+use Rattle.ownership.proofs.met.Tie as tie
 
 enum-told : tie.Need-enum-told
 enum-told c = search needs

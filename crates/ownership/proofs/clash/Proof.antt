@@ -1,4 +1,4 @@
--- `steps::over_entry::clash` meets its contract: the owner's row is that of a place, which goes where the definition moves it.
+-- `ownership::clash` meets its contract: the owner's row is that of a place, which goes where the definition moves it.
 use Prim.Native.Nat.{_<_}
 use mathlib.Core.List.{[]}
 use lib.ListN.{length, getD}
@@ -6,9 +6,9 @@ use denote.Ref.{now}
 use native.Mathlib.Omega.{arith}
 use borrow.Author.Needs.{needs}
 use Rattle.memory.specs.Pieces.{memory, place, placeOf, setPlace}
-use Rattle.steps.proofs.Parts.{place-in, row-is, count-fits, position-fits, met-clash, met-position}
-use Rattle.steps.proofs.over_entry.clash.Statement.{statement}
-use Rattle.steps.proofs.over_entry.clash.Tie as tie
+use Rattle.ownership.proofs.Parts.{place-in, row-is, count-fits, position-fits, met-clash, met-position}
+use Rattle.ownership.proofs.clash.Statement.{statement}
+use Rattle.ownership.proofs.clash.Tie as tie
 
 owner-in : (c : tie.Start) → c .args .owner < length (now (c .args .places))
 owner-in c = place-in (c .pre .among)

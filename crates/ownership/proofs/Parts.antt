@@ -23,7 +23,7 @@ use Rattle.memory.specs.Step.{fails, wakes, clash, meet, takeStep, releaseStep,
 use Rattle.memory.proofs.Tools.{if-cases}
 use Rattle.memory.proofs.Stores.{clash-other}
 use Rattle.memory.proofs.Facts.{tasks-most, some-record, in-places, in-records, row-held, count-most, position-n, run-fits, entry-fits, words-length}
-use Rattle.steps.specs.Contract.{Among, Entered, Leaves, recordAt, takes, writes, releases, versionBy, metIn}
+use Rattle.ownership.specs.Contract.{Among, Entered, Leaves, recordAt, takes, writes, releases, versionBy, metIn}
 
 -- What a sound table gives ---------------------------------------------------------------------------------------------------
 

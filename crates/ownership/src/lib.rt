@@ -4,7 +4,7 @@ ghost use mathlib.Core.List.{[]};
 ghost use Prim.Native.Nat.{_+_, _%_, _<_};
 ghost use lib.ListN.{length, getD};
 ghost use Rattle.memory.specs.Pieces.{entryOf, runStart};
-ghost use Rattle.steps.specs.Contract.{MayTake, Took, MayWrite, Wrote, MayRelease, Released, versionBy, MayMeet, Met, metIn};
+ghost use Rattle.ownership.specs.Contract.{MayTake, Took, MayWrite, Wrote, MayRelease, Released, versionBy, MayMeet, Met, metIn};
 use memory::Entry;
 use memory::Goal;
 use memory::Held;

@@ -1,10 +1,10 @@
--- `steps::over_entry::write` meets its contract.
+-- `ownership::write` meets its contract.
 use native.Mathlib.Omega.{arith}
 use borrow.Author.Needs.{needs}
 use Rattle.memory.specs.Pieces.{entry}
-use Rattle.steps.proofs.Parts.{entry-in, few-entries, address-in, write-word}
-use Rattle.steps.proofs.over_entry.write.Statement.{statement}
-use Rattle.steps.proofs.over_entry.write.Tie as tie
+use Rattle.ownership.proofs.Parts.{entry-in, few-entries, address-in, write-word}
+use Rattle.ownership.proofs.write.Statement.{statement}
+use Rattle.ownership.proofs.write.Tie as tie
 
 entry-at-requires : tie.Need-entry-at-requires
 entry-at-requires c κs = entry-in (c .before .pre .entered)

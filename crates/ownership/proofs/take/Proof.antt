@@ -1,4 +1,4 @@
--- `steps::over_entry::take` meets its contract: a law for each way through it.
+-- `ownership::take` meets its contract: a law for each way through it.
 use Prim.Native.Nat.{ℕ, _<_}
 use mathlib.Core.Path.{sym, _∙_}
 use mathlib.Core.List.{List}
@@ -8,9 +8,9 @@ use native.Mathlib.Omega.{arith}
 use borrow.Author.Needs.{needs}
 use Rattle.memory.specs.Pieces.{Memory, memory, entry, held}
 use Rattle.memory.proofs.Facts.{records-length, owner-task}
-use Rattle.steps.proofs.Parts.{few-tasks, records-there, record-in, entry-in, few-entries, Found, take-free, take-late, take-own, take-met}
-use Rattle.steps.proofs.over_entry.take.Statement.{statement}
-use Rattle.steps.proofs.over_entry.take.Tie as tie
+use Rattle.ownership.proofs.Parts.{few-tasks, records-there, record-in, entry-in, few-entries, Found, take-free, take-late, take-own, take-met}
+use Rattle.ownership.proofs.take.Statement.{statement}
+use Rattle.ownership.proofs.take.Tie as tie
 
 entry-at-requires : tie.Need-entry-at-requires
 entry-at-requires c κs = entry-in (c .before .pre .entered)

@@ -1,9 +1,9 @@
--- `steps::over_entry::entry_at` meets its contract: the row stands where the task's run says.
+-- `ownership::entry_at` meets its contract: the row stands where the task's run says.
 use native.Mathlib.Omega.{arith}
 use borrow.Author.Needs.{needs}
 use Rattle.memory.specs.Pieces.{limit, runStart}
-use Rattle.steps.proofs.over_entry.entry_at.Statement.{statement}
-use Rattle.steps.proofs.over_entry.entry_at.Tie as tie
+use Rattle.ownership.proofs.entry_at.Statement.{statement}
+use Rattle.ownership.proofs.entry_at.Tie as tie
 
 mul-start : tie.Need-mul-start
 unfolding runStart limit

@@ -1,7 +1,7 @@
--- `steps::over_entry::record_of` meets its contract.
+-- `ownership::record_of` meets its contract.
 use borrow.Author.Needs.{needs}
-use Rattle.steps.proofs.over_entry.record_of.Statement.{statement}
-use Rattle.steps.proofs.over_entry.record_of.Tie as tie
+use Rattle.ownership.proofs.record_of.Statement.{statement}
+use Rattle.ownership.proofs.record_of.Tie as tie
 
 wide-requires : tie.Need-wide-requires
 wide-requires c κs = search needs

@@ -1,4 +1,4 @@
--- `steps::over_entry::release` meets its contract: a law for each way through it.
+-- `ownership::release` meets its contract: a law for each way through it.
 use Prim.Native.Nat.{ℕ, _<_}
 use mathlib.Core.Path.{ap, _∙_}
 use mathlib.Core.List.{List}
@@ -8,9 +8,9 @@ use native.Mathlib.Omega.{arith}
 use borrow.Author.Needs.{needs}
 use Rattle.memory.specs.declared.Held.the-variants.{Version}
 use Rattle.memory.specs.Pieces.{Memory, memory, entry, numberOf}
-use Rattle.steps.proofs.Parts.{records-there, record-in, entry-in, few-entries, Found, release-free, release-own, release-other}
-use Rattle.steps.proofs.over_entry.release.Statement.{statement}
-use Rattle.steps.proofs.over_entry.release.Tie as tie
+use Rattle.ownership.proofs.Parts.{records-there, record-in, entry-in, few-entries, Found, release-free, release-own, release-other}
+use Rattle.ownership.proofs.release.Statement.{statement}
+use Rattle.ownership.proofs.release.Tie as tie
 
 entry-at-requires : tie.Need-entry-at-requires
 entry-at-requires c κs = entry-in (c .before .pre .entered)
