@@ -9,7 +9,6 @@ use Rattle.memory.specs.declared.Outcome.{Outcome}
 use Rattle.memory.specs.declared.Outcome.the-variants.{Committed, Failed, Woken}
 use Rattle.memory.specs.declared.Phase.{Phase}
 use Rattle.memory.specs.declared.Phase.the-variants.{Writing, Releasing}
-use Rattle.memory.specs.declared.Place.{Place}
 use Rattle.memory.specs.declared.Entry.{Entry}
 use Rattle.memory.specs.Pieces.{if_then_else_, Memory, memory, positionOf, held, place, entry, moved, setWord, setPlace, move}
 use Rattle.memory.specs.Sound.{sound}
