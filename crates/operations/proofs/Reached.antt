@@ -1,7 +1,8 @@
 -- What Read and Write answer by the entry that they found or made.
-use Prim.Native.Nat.{ℕ, suc, _+_}
+use Prim.Native.Nat.{ℕ, suc, _+_, _≤_}
 use mathlib.Core.Path.{_≡_, sym, ap, _∙_, subst⁻¹}
 use mathlib.Core.Bool.{true, false}
+use mathlib.Core.List.{List}
 use native.Mathlib.Numerals.{add-one}
 use native.Mathlib.Omega.{arith}
 use lib.Dec.{eqb}
@@ -19,6 +20,10 @@ use Rattle.descriptor.specs.Contract.{Within, Addable, grown}
 use Rattle.descriptor.proofs.Entries.{within}
 use Rattle.access.specs.declared.Access.the-variants.{Known, New}
 use Rattle.access.specs.Contract.{Accesses}
+
+-- what the code needs of a task's entries, of fewer of them
+pub fewer : {z : Sizes} {table : List (List ℕ)} {t n k : ℕ} → Within z table t n → k ≤ n → Within z table t k
+fewer w h = record { task = w .task; some = w .some; few = w .few; fits = omega (arith, w .fits); low = λ i lt. w .low i (omega arith) }
 
 -- Write on an entry, by its old version
 module _ (z : Sizes) (m with-it : Memory) (t a v n : ℕ) (e : Entry) where

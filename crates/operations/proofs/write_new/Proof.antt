@@ -1,9 +1,10 @@
 -- `operations::write_new` meets its contract: by the entry's old version.
+use Prim.Native.Nat.{suc}
 use mathlib.Core.Path.{sym, ap, _∙_}
 use mathlib.Core.List.{[]}
-use native.Mathlib.Numerals.{add-one}
+use native.Mathlib.Omega.{arith}
 use Rattle.memory.specs.Pieces.{Memory, setPlace, setEntry}
-use Rattle.operations.proofs.Reached.{store-8, store-grown}
+use Rattle.operations.proofs.Reached.{fewer, store-8, store-grown}
 use borrow.Author.Needs.{needs}
 use Rattle.operations.proofs.write_new.Statement.{statement}
 use Rattle.operations.proofs.write_new.Tie as tie
@@ -16,7 +17,7 @@ unfolding setPlace setEntry
 write-run-requires c κs =
     let added = c .before .before .before .add-entry .ensures [] [] in
     let s = c .before .before .before .before .before .before .before .before in
-    (rw (add-one, ap (λ (m : Memory). m .entries) added) (s .pre .0 .within), s .pre .1)
+    (fewer {n = suc (s .args .n)} (rw (ap (λ (m : Memory). m .entries) added) (s .pre .0 .within)) (omega arith), s .pre .1)
 
 returns-2 : tie.Need-returns-2
 returns-2 c = λ ws rs.
