@@ -17,7 +17,8 @@ use Rattle.session.specs.Session.{Session}
 use Rattle.session.proofs.Cases.{session-cases}
 use Rattle.text.specs.Text.{line}
 use Rattle.play.specs.Contract.{Roomy}
-use Rattle.play.specs.Play.{runs, after, stops, run, requested, printed, runOn}
+use Rattle.asking.specs.Asking.{requested}
+use Rattle.play.specs.Play.{runs, after, stops, run, printed, runOn}
 
 -- tables that are long enough wherever the sizes are in range
 abbrev pub Serves : Sizes → Memory → Type 0

@@ -1,5 +1,4 @@
 -- Laws that the code's proofs share, and the promises of specs/Claims.antt (Promises has them all).
-pub mod Puts
 pub mod Ends
 pub mod Turns
 pub mod Under
@@ -7,5 +6,4 @@ pub mod Lent
 pub mod Texts
 pub mod Room
 pub mod Reaches
-pub mod Shows
 pub mod Promises

@@ -3,7 +3,7 @@ use Rattle.memory.proofs.Promises.{reached-is-sound}
 use Rattle.play.specs.Play.{sizesAsked, firstAsked, lent}
 use Rattle.play.specs.Claims.{ran, PlayedIsReached, WordLinesAreTheBoard}
 use Rattle.play.proofs.Reaches.{played}
-use Rattle.play.proofs.Shows.{shows}
+use Rattle.showing.proofs.Shows.{shows}
 
 pub played-is-reached : PlayedIsReached
 played-is-reached = played

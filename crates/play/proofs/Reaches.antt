@@ -21,7 +21,8 @@ use Rattle.session.specs.Session as file
 use Rattle.session.specs.Session.{Piece, Session}
 use Rattle.session.proofs.Cases.{session-cases}
 use Rattle.play.specs.Claims.{Reached, PlayedIsReached}
-use Rattle.play.specs.Play.{sizesAsked, firstAsked, lent, Run, runs, after, over, run, requested, stops, runOn}
+use Rattle.asking.specs.Asking.{requested}
+use Rattle.play.specs.Play.{sizesAsked, firstAsked, lent, Run, runs, after, over, run, stops, runOn}
 use Rattle.play.proofs.Lent.{opening-cases, lent-serves}
 
 -- a record as an event of the history

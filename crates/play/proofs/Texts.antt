@@ -15,10 +15,11 @@ use Rattle.session.specs.Session as file
 use Rattle.session.specs.Session.{mostBytes, split}
 use Rattle.session.proofs.Cases.{split-cases, there, first-opens}
 use Rattle.text.specs.Text.{Put}
-use Rattle.text.proofs.Laws.{follow}
-use Rattle.play.specs.Play.{sizesOf, sizesAsked, firstAsked, lent, Run, over, wordLines, printed, runOn, text}
+use Rattle.text.proofs.Laws.{follow, wider}
+use Rattle.asking.specs.Asking.{sizesOf}
+use Rattle.showing.specs.Showing.{wordLines}
+use Rattle.play.specs.Play.{sizesAsked, firstAsked, lent, Run, over, printed, runOn, text}
 use Rattle.play.specs.Contract.{Runs}
-use Rattle.play.proofs.Puts.{wider}
 use Rattle.play.proofs.Turns.{all-of-it, ends-here}
 use Rattle.play.proofs.Lent.{Serves, lent-serves, any-tables}
 

@@ -17,7 +17,8 @@ use Rattle.session.specs.declared.Split.{Split}
 use Rattle.session.specs.declared.Split.the-variants.{Record, Refused, End}
 use Rattle.session.specs.Session.{Session, body, recordLength, following, split, piece, before, onward, ending, splitAll, session}
 use Rattle.text.specs.Text.{line}
-use Rattle.play.specs.Play.{Run, runs, after, over, run, requested, stops, runOn}
+use Rattle.asking.specs.Asking.{requested}
+use Rattle.play.specs.Play.{Run, runs, after, over, run, stops, runOn}
 
 -- the records from a place on, at an index
 unfoldable pub restOf : List ℕ → ℕ → ℕ → Session

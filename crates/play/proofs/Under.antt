@@ -16,10 +16,10 @@ use Rattle.session.specs.declared.Split.the-variants.{Record}
 use Rattle.session.specs.Session.{mostBytes, body, recordLength, split}
 use Rattle.session.proofs.Cases.{there}
 use Rattle.text.specs.Text.{line, Put}
-use Rattle.text.proofs.Laws.{follow}
-use Rattle.play.specs.Play.{Run, runs, after, over, requested, stops, runOn}
+use Rattle.text.proofs.Laws.{follow, put-none, wider}
+use Rattle.asking.specs.Asking.{requested}
+use Rattle.play.specs.Play.{Run, runs, after, over, stops, runOn}
 use Rattle.play.specs.Contract.{Runs, lineRoom, recordsRoom}
-use Rattle.play.proofs.Puts.{put-none, wider}
 use Rattle.play.proofs.Turns.{restRun, onFrom, all-of-it, ends-here, one-more}
 
 after-after : (k l : List ℕ) (r : Run) → after (k ++ l) r ≡ after k (after l r)

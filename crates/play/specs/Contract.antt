@@ -10,14 +10,12 @@ use lib.ListN.{length}
 use Rattle.memory.specs.Pieces.{if_then_else_, Memory, mostWords, mostRecords, mostTasks, mostEntries}
 use Rattle.session.specs.Session.{mostBytes}
 use Rattle.text.specs.Text.{Put, stored}
+use Rattle.showing.specs.Showing.{wordLineRoom}
 use Rattle.play.specs.Play.{Run, text}
 
--- how long a line can be: three numbers of 32 bits, and for an address two bytes more
+-- how long a line can be: three numbers of 32 bits
 abbrev pub lineRoom : ℕ
 lineRoom = 33
-
-abbrev pub wordLineRoom : ℕ
-wordLineRoom = 35
 
 -- how long the lines of all records can be, and the whole text
 abbrev pub recordsRoom : ℕ

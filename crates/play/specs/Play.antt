@@ -1,26 +1,21 @@
 -- The session player: the text that it prints for the bytes of a session, through the calls of document 01.
-use Prim.Native.Nat.{ℕ, zero, suc}
+use Prim.Native.Nat.{ℕ, suc}
 use mathlib.Core.List.{List, [], _∷_, _++_}
-use mathlib.Core.Bool.{Bool, true, false, _&&_, _||_}
+use mathlib.Core.Bool.{Bool, true, false, _||_}
 use lib.Dec.{eqb}
 use Rattle.memory.specs.declared.Sizes.{Sizes}
 use Rattle.memory.specs.Pieces.{if_then_else_, Memory}
-use Rattle.memory.specs.Numbers.{Reply}
-use Rattle.memory.specs.Requests.{opened, openBoard, look}
-use Rattle.memory.specs.Calls.{call}
-use Rattle.memory.specs.Calls.Call.{ST, CM, AB, WT, SP, RD, WR}
+use Rattle.memory.specs.Requests.{opened}
 use Rattle.session.specs.Session as file
 use Rattle.session.specs.Session.{Piece, session}
-use Rattle.session.specs.declared.Kind.{Kind}
+use Rattle.session.specs.declared.Kind.the-variants.{Open}
 use Rattle.session.specs.declared.Split.{Split}
-use Rattle.session.specs.declared.Kind.the-variants.{Open, Start, Commit, Abort, Wait, Step, Read, Write}
 use Rattle.session.specs.declared.Split.the-variants.{Record, Refused, End}
-use Rattle.text.specs.Text.{line, wordLine}
+use Rattle.text.specs.Text.{line}
+use Rattle.asking.specs.Asking.{sizesOf, requested}
+use Rattle.showing.specs.Showing.{wordLines}
 
 -- The sizes and the first version that the first record of a session asks: "words 2 bytes, records 2, tasks 1, first version 4".
-abbrev pub sizesOf : List ℕ → Sizes
-sizesOf b = record { words = file.words b; records = file.records b; tasks = file.tasks b }
-
 unfoldable pub sizesAsked : List ℕ → Sizes
 sizesAsked bytes = sizesOf (file.body Open bytes)
 
@@ -30,17 +25,6 @@ firstAsked bytes = file.firstVersion (file.body Open bytes)
 -- Tables of these sizes. Opening sets all that they hold.
 abbrev pub lent : Sizes → Memory
 lent z = opened z 0
-
--- what a record asks, and what is answered
-unfoldable pub requested : Sizes → ℕ → Memory → Kind → List ℕ → Reply
-requested z v m Open b = openBoard z v m
-requested z v m Start b = call z m (ST (file.task b))
-requested z v m Commit b = call z m (CM (file.task b))
-requested z v m Abort b = call z m (AB (file.task b))
-requested z v m Wait b = call z m (WT (file.task b))
-requested z v m Step b = call z m (SP (file.task b))
-requested z v m Read b = call z m (RD (file.task b) (file.address b))
-requested z v m Write b = call z m (WR (file.task b) (file.address b) (file.value b))
 
 -- "It stops after a line with 2, 10, 11, 12 or 14."
 abbrev pub stops : ℕ → Bool
@@ -58,7 +42,8 @@ runs l w m = record { lines = l; whole = w; board = m }
 abbrev pub after : List ℕ → Run → Run
 after l r = runs (l ++ r .lines) (r .whole) (r .board)
 
--- the end of a session: a record that is refused has its line too
+-- the end of a session: a record that is refused has its line too. No session ends at a record (`splits-to-the-end`): that case is
+-- there because a definition answers for every case of its type.
 abbrev pub over : ℕ → Memory → Split → Run
 over i m (Record k) = runs [] true m
 over i m (Refused n) = runs (line i n 0) false m
@@ -71,18 +56,7 @@ run z v i m (p ∷ ps) ended =
     let r = requested z v m (p .kind) (p .body) in
     after (line i (r .number) (r .value)) (if stops (r .number) then runs [] false (r .after) else run z v (suc i) (r .after) ps ended)
 
--- "'w address value version' for each address whose logical value isn't 0 or whose logical version isn't the first version"
-unfoldable pub shown : Sizes → ℕ → Memory → ℕ → List ℕ
-shown z v m a =
-    let l = look z m a in
-    if eqb (l .value) 0 && eqb (l .version) v then [] else wordLine a (l .value) (l .version)
-
--- "in ascending order": of the addresses below n
-unfoldable pub wordLines : Sizes → ℕ → Memory → ℕ → List ℕ
-wordLines z v m zero = []
-wordLines z v m (suc n) = wordLines z v m n ++ shown z v m n
-
--- the lines of the records, and if none of them stopped the player those of the board
+-- "Otherwise it then prints": the lines of the records, and if none of them stopped the player those of the board
 unfoldable pub printed : Sizes → ℕ → Run → List ℕ
 printed z v r = r .lines ++ (if r .whole then wordLines z v (r .board) (z .words) else [])
 

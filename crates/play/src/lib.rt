@@ -7,10 +7,6 @@ ghost use Rattle.session.specs.Session.{mostBytes};
 ghost use Rattle.text.specs.Text.{Put};
 ghost use Rattle.play.specs.Play as spec;
 ghost use Rattle.play.specs.Contract.{Plays, Roomy, Runs, lineRoom, recordsRoom, textRoom};
-
-mod asking;
-mod board;
-
 use memory::Sizes;
 use session::Split;
 
@@ -111,7 +107,7 @@ fn run_board(
     let ran = run_records(session, sizes, first, words, records, places, entries, out);
     let at = ran.at;
     if ran.whole {
-        return board::put_board(sizes, first, words, records, places, entries, out, at);
+        return showing::put_board(sizes, first, words, records, places, entries, out, at);
     }
     at
 }

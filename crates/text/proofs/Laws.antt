@@ -89,6 +89,13 @@ follow {out = out} {at = at} {xs = xs} {ys = ys} p q =
       near = omega arith;
     }
 
+-- no byte put, and more room than was said
+pub put-none : (most : ℕ) (out : List ℕ) (at : ℕ) → Put most out at [] out at
+put-none most out at = record { holds = refl; after = omega arith; near = omega arith }
+
+pub wider : {most more : ℕ} {out left : List ℕ} {at next : ℕ} {bytes : List ℕ} → most ≤ more → Put most out at bytes left next → Put more out at bytes left next
+wider h p = record { holds = p .holds; after = p .after; near = omega (arith, p .near) }
+
 -- one byte put, within the buffer and past its end
 pub put-byte : (out : List ℕ) (at b : ℕ) → Put 1 out at (b ∷ []) (set out at b) (at + 1)
 put-byte out at b = record { holds = refl; after = refl; near = omega arith }

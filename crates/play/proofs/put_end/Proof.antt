@@ -1,8 +1,8 @@
 -- `play::put_end` meets its contract: the line of a refusal, or nothing.
 use mathlib.Core.Path.{refl}
 use borrow.Author.Needs.{needs}
+use Rattle.text.proofs.Laws.{put-none}
 use Rattle.play.specs.Contract.{lineRoom}
-use Rattle.play.proofs.Puts.{put-none}
 use Rattle.play.proofs.Ends.{not-refused}
 use Rattle.play.proofs.put_end.Statement.{statement}
 use Rattle.play.proofs.put_end.Tie as tie

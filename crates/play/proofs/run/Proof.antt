@@ -7,7 +7,7 @@ use native.Mathlib.Omega.{arith}
 use borrow.Author.Needs.{needs}
 use Rattle.session.specs.declared.Split.the-variants.{Record}
 use Rattle.session.specs.Session.{firstVersion, split}
-use Rattle.play.specs.Play.{sizesOf}
+use Rattle.asking.specs.Asking.{sizesOf}
 use Rattle.play.proofs.Ends.{no-record}
 use Rattle.play.proofs.Texts.{refused-text, on-tables, short-enough}
 use Rattle.play.proofs.Lent.{parts-serve}

@@ -10,7 +10,7 @@ use denote.Ref.{now}
 use borrow.Author.Needs.{needs}
 use Rattle.session.specs.declared.Split.the-variants.{Record}
 use Rattle.session.specs.Session.{body, recordLength, split}
-use Rattle.play.specs.Play.{requested}
+use Rattle.asking.specs.Asking.{requested}
 use Rattle.memory.specs.Pieces.{memory}
 use Rattle.play.proofs.Ends.{no-record}
 use Rattle.play.proofs.Under.{Under, room, begin, finish, halt, turn}

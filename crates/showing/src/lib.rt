@@ -1,12 +1,12 @@
-// The lines of the board: one for each address that was changed, ascending.
+// The lines of a board, into a lent buffer: one for each address that was changed, ascending.
 ghost use mathlib.Core.Path.{_≡_};
 ghost use mathlib.Core.Bool.{_&&_};
 ghost use Prim.Native.Nat.{_*_, _<_};
 ghost use lib.Dec.{eqb};
 ghost use Rattle.memory.specs.Pieces.{memory};
 ghost use Rattle.text.specs.Text.{Put};
-ghost use Rattle.play.specs.Play as spec;
-ghost use Rattle.play.specs.Contract.{wordLineRoom};
+ghost use Rattle.showing.specs.Showing as spec;
+ghost use Rattle.showing.specs.Showing.{wordLineRoom};
 use memory::Looked;
 use memory::Sizes;
 

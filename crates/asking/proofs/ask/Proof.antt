@@ -1,9 +1,9 @@
--- `play::asking::ask` meets its contract: each kind is the call of its name, with the numbers of the body.
+-- `asking::ask` meets its contract: each kind is the call of its name, with the numbers of the body.
 use borrow.Author.Needs.{needs}
 use Rattle.memory.specs.Calls.{call}
-use Rattle.play.specs.Play.{requested}
-use Rattle.play.proofs.asking.ask.Statement.{statement}
-use Rattle.play.proofs.asking.ask.Tie as tie
+use Rattle.asking.specs.Asking.{requested}
+use Rattle.asking.proofs.ask.Statement.{statement}
+use Rattle.asking.proofs.ask.Tie as tie
 
 enum-told : tie.Need-enum-told
 enum-told c = search needs

@@ -15,8 +15,8 @@ use Rattle.memory.specs.Requests.{look, looked}
 use Rattle.memory.specs.History.{_∈_}
 use Rattle.memory.proofs.Tools.{same?}
 use Rattle.text.specs.Text.{wordLine}
-use Rattle.play.specs.Play.{shown, wordLines}
-use Rattle.play.specs.Claims.{among, Changed, changed, linesOf, ShowsTheBoard}
+use Rattle.showing.specs.Showing.{shown, wordLines}
+use Rattle.showing.specs.Claims.{among, Changed, changed, linesOf, ShowsTheBoard}
 
 -- the addresses that pass a test -----------------------------------------------------------------------------------------------------
 

@@ -1,7 +1,7 @@
--- `play::asking::sizes_of` meets its contract: each size by its place in the body.
+-- `asking::sizes_of` meets its contract: each size by its place in the body.
 use borrow.Author.Needs.{needs}
-use Rattle.play.proofs.asking.sizes_of.Statement.{statement}
-use Rattle.play.proofs.asking.sizes_of.Tie as tie
+use Rattle.asking.proofs.sizes_of.Statement.{statement}
+use Rattle.asking.proofs.sizes_of.Tie as tie
 
 returns : tie.Need-returns
 returns c = (cc, search needs)

@@ -1,4 +1,4 @@
--- `play::board::put_word` meets its contract: the line of an address, if it was changed.
+-- `showing::put_word` meets its contract: the line of an address, if it was changed.
 use Prim.Native.Nat.{ℕ}
 use mathlib.Core.Path.{_≡_, sym, _∙_}
 use mathlib.Core.List.{[]}
@@ -10,11 +10,10 @@ use Rattle.memory.specs.declared.Looked.{Looked}
 use Rattle.memory.specs.Pieces.{Memory}
 use Rattle.memory.specs.Requests.{look}
 use Rattle.text.specs.Text.{wordLine}
-use Rattle.play.specs.Contract.{wordLineRoom}
-use Rattle.play.specs.Play.{shown}
-use Rattle.play.proofs.Puts.{put-none}
-use Rattle.play.proofs.board.put_word.Statement.{statement}
-use Rattle.play.proofs.board.put_word.Tie as tie
+use Rattle.showing.specs.Showing.{wordLineRoom, shown}
+use Rattle.text.proofs.Laws.{put-none}
+use Rattle.showing.proofs.put_word.Statement.{statement}
+use Rattle.showing.proofs.put_word.Tie as tie
 
 -- what is shown of an address that was looked up
 module _ (z : Sizes) (v : ℕ) (m : Memory) (a : ℕ) (l : Looked) (is : l ≡ look z m a) where

@@ -1,7 +1,7 @@
--- `play::board::is_first` meets its contract: the value, then the version.
+-- `showing::is_first` meets its contract: the value, then the version.
 use borrow.Author.Tests.{eq-eqb, ne-eqb}
-use Rattle.play.proofs.board.is_first.Statement.{statement}
-use Rattle.play.proofs.board.is_first.Tie as tie
+use Rattle.showing.proofs.is_first.Statement.{statement}
+use Rattle.showing.proofs.is_first.Tie as tie
 
 returns : tie.Need-returns
 returns c = rw (eq-eqb _ 0 (c .before .if1 .taken))

@@ -1,10 +1,10 @@
-// What a record asks of the board: the sizes of an opening, or the call of its kind.
+// What a record of a session asks of the memory: the sizes of an opening, or the call of its kind.
 ghost use mathlib.Core.Path.{_≡_};
 ghost use Prim.Native.Nat.{_<_};
 ghost use Rattle.memory.specs.Pieces.{memory};
 ghost use Rattle.memory.specs.Numbers.{replied};
 ghost use Rattle.session.specs.Session as file;
-ghost use Rattle.play.specs.Play as spec;
+ghost use Rattle.asking.specs.Asking as spec;
 use memory::Answer;
 use memory::Sizes;
 use session::Kind;

@@ -1,4 +1,4 @@
--- `play::board::put_board` meets its contract: the lines of the addresses passed are those of the definition below the address.
+-- `showing::put_board` meets its contract: the lines of the addresses passed are those of the definition below the address.
 use Prim.Native.Nat.{ℕ, _+_, _*_, _-_, _<_, _≤_}
 use mathlib.Core.Path.{_≡_, refl, subst, _∙_}
 use mathlib.Core.List.{List}
@@ -9,12 +9,10 @@ use borrow.Author.Needs.{needs}
 use Rattle.memory.specs.declared.Sizes.{Sizes}
 use Rattle.memory.specs.Pieces.{Memory, memory}
 use Rattle.text.specs.Text.{Put}
-use Rattle.text.proofs.Laws.{follow}
-use Rattle.play.specs.Contract.{wordLineRoom}
-use Rattle.play.specs.Play.{shown, wordLines}
-use Rattle.play.proofs.Puts.{put-none, wider}
-use Rattle.play.proofs.board.put_board.Statement.{statement}
-use Rattle.play.proofs.board.put_board.Tie as tie
+use Rattle.text.proofs.Laws.{follow, put-none, wider}
+use Rattle.showing.specs.Showing.{wordLineRoom, shown, wordLines}
+use Rattle.showing.proofs.put_board.Statement.{statement}
+use Rattle.showing.proofs.put_board.Tie as tie
 
 -- the lines of the addresses that were passed
 record Board (z : Sizes) (v : ℕ) (m : Memory) (out₀ : List ℕ) (at count : ℕ) (out : List ℕ) (next address : ℕ) : Type 0 where

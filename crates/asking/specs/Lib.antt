@@ -1,0 +1,2 @@
+-- What a record asks, as a definition.
+pub mod Asking

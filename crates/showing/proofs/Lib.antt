@@ -1,0 +1,2 @@
+-- What `play` cites of the lines of a board.
+pub mod Shows

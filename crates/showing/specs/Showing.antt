@@ -1,0 +1,24 @@
+-- The lines of a board: one for each address that is not as it was opened.
+use Prim.Native.Nat.{ℕ, zero, suc}
+use mathlib.Core.List.{List, [], _++_}
+use mathlib.Core.Bool.{_&&_}
+use lib.Dec.{eqb}
+use Rattle.memory.specs.declared.Sizes.{Sizes}
+use Rattle.memory.specs.Pieces.{if_then_else_, Memory}
+use Rattle.memory.specs.Requests.{look}
+use Rattle.text.specs.Text.{wordLine}
+
+-- "'w address value version' for each address whose logical value isn't 0 or whose logical version isn't the first version"
+unfoldable pub shown : Sizes → ℕ → Memory → ℕ → List ℕ
+shown z v m a =
+    let l = look z m a in
+    if eqb (l .value) 0 && eqb (l .version) v then [] else wordLine a (l .value) (l .version)
+
+-- "in ascending order": of the addresses below n
+unfoldable pub wordLines : Sizes → ℕ → Memory → ℕ → List ℕ
+wordLines z v m zero = []
+wordLines z v m (suc n) = wordLines z v m n ++ shown z v m n
+
+-- how long such a line can be: three numbers of 32 bits, and two bytes more
+abbrev pub wordLineRoom : ℕ
+wordLineRoom = 35
