@@ -55,10 +55,10 @@ module _ (s : List ℕ) (z : Sizes) (v : ℕ) (m₀ : Memory) (out₀ : List ℕ
         (joined s z v m₀ out₀ (omega (arith, u .behind, u .inside)) (u .put) r)
 
     -- a record is split off and asked
-    module _ (k : Kind) (is : split (eqb i 0) (drop from s) ≡ Record k) (n value : ℕ) (m′ : Memory)
-        (asks : reply n value m′ ≡ requested z v m k (body k (drop from s))) (left : List ℕ) (next : ℕ) (puts : Put lineRoom out at (line i n value) left next) where
+    module _ (k : Kind) (is : split (eqb i 0) (drop from s) ≡ Record k) (b : List ℕ) (its : b ≡ body k (drop from s))
+        (n value : ℕ) (m′ : Memory) (asks : reply n value m′ ≡ requested z v m k b) (left : List ℕ) (next : ℕ) (puts : Put lineRoom out at (line i n value) left next) where
       unfolds : restRun z v s m i from ≡ onFrom z v s i from k (reply n value m′)
-      unfolds = one-more z v s m i from k (omega (arith, room s from i k is, u .behind)) is ∙ ap (onFrom z v s i from k) (sym asks)
+      unfolds = one-more z v s m i from k (omega (arith, room s from i k is, u .behind)) is ∙ ap (onFrom z v s i from k) (ap (requested z v m k) (sym its) ∙ sym asks)
 
       pub halt : stops n ≡ true → Runs recordsRoom (runOn z v m₀ s) out₀ 0 left next false m′
       halt e =

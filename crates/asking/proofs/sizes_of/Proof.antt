@@ -4,7 +4,7 @@ use Rattle.asking.proofs.sizes_of.Statement.{statement}
 use Rattle.asking.proofs.sizes_of.Tie as tie
 
 returns : tie.Need-returns
-returns c = (cc, search needs)
+returns c = (rw (← c .before .before .two-at .ensures, ← c .before .two-at2 .ensures, ← c .byte-at .ensures), search needs)
 
 pub sizes-of-spec : {M : Type 1} → statement M
 sizes-of-spec =

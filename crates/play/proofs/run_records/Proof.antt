@@ -10,7 +10,6 @@ use denote.Ref.{now}
 use borrow.Author.Needs.{needs}
 use Rattle.session.specs.declared.Split.the-variants.{Record}
 use Rattle.session.specs.Session.{body, recordLength, split}
-use Rattle.asking.specs.Asking.{requested}
 use Rattle.memory.specs.Pieces.{memory}
 use Rattle.play.proofs.Ends.{no-record}
 use Rattle.play.proofs.Under.{Under, room, begin, finish, halt, turn}
@@ -81,8 +80,7 @@ returns-2 : tie.Need-returns-2 Inv-loop μ-loop
 returns-2 c =
     let asked = c .before .before .before .before .before .before .before .before .before .before .before .before in
     let l = c .before .before .before .before .before .before .before .before .before .before .before .before .before .before .before .before .before .before .before .before .before .before .before in
-    halt _ _ _ _ _ _ _ _ _ _ (l .loop .inv .0) (l .before .before .before .before .before .pre) _ (is-record (c .before .before .before .before .before .before .before .before .before .before .before .before .before .before .before .before .before .before .before)) _ _ _
-    (asked .ask .ensures ∙ ap (requested _ _ _ _) (its-body (c .before .before .before .before .before .before .before .before .before .before .before .before .before .before .before .before .before)))
+    halt _ _ _ _ _ _ _ _ _ _ (l .loop .inv .0) (l .before .before .before .before .before .pre) _ (is-record (c .before .before .before .before .before .before .before .before .before .before .before .before .before .before .before .before .before .before .before)) _ (its-body (c .before .before .before .before .before .before .before .before .before .before .before .before .before .before .before .before .before)) _ _ _ (asked .ask .ensures)
     _ _ (c .before .before .before .before .put-line .ensures) (sym (c .before .stops .ensures) ∙ c .if1 .taken)
 
 add-from : tie.Need-add-from Inv-loop μ-loop
@@ -99,8 +97,7 @@ loop-again c =
     let asked = c .before .before .before .before .before .before .before .before .before .before .before .before .before in
     let l = c .before .before .before .before .before .before .before .before .before .before .before .before .before .before .before .before .before .before .before .before .before .before .before .before in
     rw (c .record-length .ensures) (
-      turn _ _ _ _ _ _ _ _ _ _ (l .loop .inv .0) (l .before .before .before .before .before .pre) _ (is-record (c .before .before .before .before .before .before .before .before .before .before .before .before .before .before .before .before .before .before .before .before)) _ _ _
-          (asked .ask .ensures ∙ ap (requested _ _ _ _) (its-body (c .before .before .before .before .before .before .before .before .before .before .before .before .before .before .before .before .before .before)))
+      turn _ _ _ _ _ _ _ _ _ _ (l .loop .inv .0) (l .before .before .before .before .before .pre) _ (is-record (c .before .before .before .before .before .before .before .before .before .before .before .before .before .before .before .before .before .before .before .before)) _ (its-body (c .before .before .before .before .before .before .before .before .before .before .before .before .before .before .before .before .before .before)) _ _ _ (asked .ask .ensures)
           _ _ (c .before .before .before .before .before .put-line .ensures) (sym (c .before .before .stops .ensures) ∙ c .before .if1 .left),
       record {
         words = asked .ask .kept .1 .1 .0 ∙ l .loop .inv .1 .words;
