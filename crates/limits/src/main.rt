@@ -1,43 +1,23 @@
-// The limits of document 01, tried one by one: sizes, lent lengths, the 64 entries, every refusal with what it leaves behind, and
-// which number wins where two apply.
+// The limits of document 01, tried one by one: sizes, lent lengths, the 64 entries, every refusal with what it leaves behind, which
+// number wins where two apply, and a table that is unsound by each clause. The cases are the script on standard input.
 mod cases;
-mod kept;
-mod lengths;
-mod openings;
-mod scripts;
+mod line;
+mod marks;
+mod play;
 mod telling;
 
-use trial::Lent;
-use trial::exactly;
+use libc::STDIN_FILENO;
 
-// A script on tables of its own.
-fn alone(script: &[[u32; 5]], lent: Lent) {
-    let mut words = [0u32; 130];
-    let mut records = [0u32; 2];
-    let mut places = [[0u32; 3]; 2];
-    let mut entries = [[0u32; 5]; 128];
-    let mut kept = [0u32; 778];
-    scripts::play(
-        script,
-        lent,
-        &mut words,
-        &mut records,
-        &mut places,
-        &mut entries,
-        &mut kept,
-    );
+// One byte past the longest script.
+fn room_for_script() -> [u8; 16385] {
+    [0u8; 16385]
 }
 
 fn main() {
-    let many = exactly(130, 2, 2);
-    let few = exactly(4, 2, 2);
-    openings::all();
-    lengths::all();
-    alone(&cases::ENTRIES, many);
-    alone(&cases::ENTRIES_AT_TOP, many);
-    alone(&cases::TABLES, few);
-    alone(&cases::PHASES, few);
-    alone(&cases::OVERTAKING, few);
-    alone(&cases::AT_TOP, few);
-    alone(&cases::BELOW_TOP, few);
+    let mut script = room_for_script();
+    let length = io::read_full(STDIN_FILENO, &mut script);
+    if length == 16385 {
+        telling::say(b"The script is too long.\n");
+    }
+    play::whole(&script[..length]);
 }

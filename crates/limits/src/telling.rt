@@ -1,16 +1,15 @@
-// What was seen of a case, as a line on standard output.
-use crate::cases;
-use crate::kept::Changed;
+// What was seen of a case, as text on standard output.
+use board::Changed;
+use libc::STDOUT_FILENO;
 use memory::Looked;
-
-const STANDARD_OUTPUT: i32 = 1;
+use trial::Kind;
 
 pub fn say(text: &[u8]) {
-    io::write_all(STANDARD_OUTPUT, text);
+    io::write_all(STDOUT_FILENO, text);
 }
 
 pub fn say_number(n: u32) {
-    io::print_decimal(STANDARD_OUTPUT, n as u64);
+    io::print_decimal(STDOUT_FILENO, n as u64);
 }
 
 // A name and its number.
@@ -24,17 +23,12 @@ pub fn say_line(text: &[u8], n: u32) {
     say(b"\n");
 }
 
-fn say_kind(kind: u32) {
-    match kind {
-        cases::OPEN => say(b"open "),
-        cases::START => say(b"start "),
-        cases::READ => say(b"read "),
-        cases::WRITE => say(b"write "),
-        cases::ABORT => say(b"abort "),
-        cases::COMMIT => say(b"commit "),
-        cases::WAIT => say(b"wait "),
-        cases::STEP => say(b"step "),
-        _ => say(b"look "),
+// A part of the script.
+pub fn say_part(script: &[u8], from: usize, end: usize) {
+    if from <= end {
+        if end <= script.len() {
+            say(&script[from..end]);
+        }
     }
 }
 
@@ -49,18 +43,25 @@ fn say_effect(number: u32, changed: Changed) {
     }
 }
 
-// The line of a case: the call, why it is tried, the number answered, and what there is to see of it.
-pub fn tell(row: [u32; 5], seen: Looked, changed: Changed) {
-    say_kind(row[0]);
-    cases::say_case(row[4]);
-    say_named(b": ", seen.number);
-    if seen.number != 0 && seen.number < 20 {
-        say_effect(seen.number, changed);
-    } else if row[0] == cases::READ {
-        say_named(b", value ", seen.value);
-    } else if row[0] == cases::LOOK {
-        say_named(b", value ", seen.value);
-        say_named(b", version ", seen.version);
+// What there is to see of a call that was not refused.
+fn say_result(kind: Kind, seen: Looked) {
+    match kind {
+        Kind::Read => say_named(b", value ", seen.value),
+        Kind::Look => {
+            say_named(b", value ", seen.value);
+            say_named(b", version ", seen.version);
+        }
+        _ => {}
     }
-    say(b"\n");
+}
+
+// After a case's sentence: the number answered, and what there is to see of the call.
+pub fn tell(kind: Kind, seen: Looked, changed: Changed) {
+    let number = seen.number;
+    say_named(b": ", number);
+    if number != 0 && number < 20 {
+        say_effect(number, changed);
+    } else {
+        say_result(kind, seen);
+    }
 }
