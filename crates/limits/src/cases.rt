@@ -1,11 +1,11 @@
 // A call of the script: one that prepares a case, a case, or a case on a table that was spoiled.
-use crate::line;
 use crate::telling::say;
 use crate::telling::say_line;
 use crate::telling::say_named;
 use crate::telling::tell;
 use board::Changed;
 use memory::Looked;
+use script::line;
 use std::num::wrapping_add_u32;
 use std::num::wrapping_sub_usize;
 use trial::Call;
@@ -19,10 +19,11 @@ struct Seen {
 }
 
 // A call with the whole row kept before and compared after it.
-fn asked(call: Call, lent: Lent, row: &mut [u32], kept: &mut [u32]) -> Seen {
-    board::copy(row, kept);
+fn asked(call: Call, lent: Lent, row: &mut [u32]) -> Seen {
+    let mut kept = [0u32; board::NUMBERS];
+    board::copy(row, &mut kept);
     let looked = board::ask(call, lent, row);
-    let changed = board::compared(row, kept, call.task);
+    let changed = board::compared(row, &kept, call.task);
     Seen { looked, changed }
 }
 
@@ -54,9 +55,9 @@ fn opened(kind: Kind, number: u32) -> bool {
     }
 }
 
-fn case(call: Call, lent: Lent, row: &mut [u32], kept: &mut [u32]) {
+fn case(call: Call, lent: Lent, row: &mut [u32]) {
     let kind = call.kind;
-    let seen = asked(call, lent, row, kept);
+    let seen = asked(call, lent, row);
     let looked = seen.looked;
     tell(kind, looked, seen.changed);
     if opened(kind, looked.number) {
@@ -67,9 +68,9 @@ fn case(call: Call, lent: Lent, row: &mut [u32], kept: &mut [u32]) {
 }
 
 // A case on a row that was spoiled. Then the row is put back, and the number is told that the same call answers there.
-fn spoiled(call: Call, lent: Lent, row: &mut [u32], sound: &[u32], kept: &mut [u32]) {
+fn spoiled(call: Call, lent: Lent, row: &mut [u32], sound: &[u32]) {
     let kind = call.kind;
-    let seen = asked(call, lent, row, kept);
+    let seen = asked(call, lent, row);
     tell(kind, seen.looked, seen.changed);
     board::copy(sound, row);
     let before = board::ask(call, lent, row);
@@ -77,27 +78,20 @@ fn spoiled(call: Call, lent: Lent, row: &mut [u32], sound: &[u32], kept: &mut [u
     board::copy(sound, row);
 }
 
-fn plain(told: u8, call: Call, lent: Lent, row: &mut [u32], kept: &mut [u32]) {
+fn plain(told: u8, call: Call, lent: Lent, row: &mut [u32]) {
     if told == line::CASE {
-        case(call, lent, row, kept);
+        case(call, lent, row);
     } else {
         prepare(call, lent, row);
     }
 }
 
 // The call of a line. `sound` is the row as the last call left it that was not made on a spoiled one.
-pub fn call(
-    told: u8,
-    call: Call,
-    lent: Lent,
-    row: &mut [u32],
-    sound: &mut [u32],
-    kept: &mut [u32],
-) {
+pub fn call(told: u8, call: Call, lent: Lent, row: &mut [u32], sound: &mut [u32]) {
     if told == line::SPOILED {
-        spoiled(call, lent, row, sound, kept);
+        spoiled(call, lent, row, sound);
     } else {
-        plain(told, call, lent, row, kept);
+        plain(told, call, lent, row);
         board::copy(row, sound);
     }
 }

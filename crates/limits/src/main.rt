@@ -1,8 +1,6 @@
 // The limits of document 01, tried one by one: sizes, lent lengths, the 64 entries, every refusal with what it leaves behind, which
 // number wins where two apply, and a table that is unsound by each clause. The cases are the script on standard input.
 mod cases;
-mod line;
-mod marks;
 mod play;
 mod telling;
 

@@ -1,11 +1,11 @@
 // The script, line by line.
 use crate::cases;
-use crate::line;
-use crate::line::Line;
-use crate::marks;
-use crate::marks::Act;
 use crate::telling::say;
 use crate::telling::say_part;
+use script::line;
+use script::line::Line;
+use script::marks;
+use script::marks::Act;
 use trial::Lent;
 use trial::exactly;
 use trial::put;
@@ -24,12 +24,12 @@ fn store(line: Line, row: &mut [u32]) {
 }
 
 // What a line asks for beside what is lent.
-fn obey(line: Line, lent: Lent, row: &mut [u32], sound: &mut [u32], kept: &mut [u32]) {
+fn obey(line: Line, lent: Lent, row: &mut [u32], sound: &mut [u32]) {
     let act = marks::act_of(line.mark);
     match act {
         Act::Call(kind) => {
             let call = marks::call_of(kind, line);
-            cases::call(line.told, call, lent, row, sound, kept)
+            cases::call(line.told, call, lent, row, sound)
         }
         Act::Store => store(line, row),
         Act::Fill => cases::fill(wide(line.numbers[1]), lent, row, sound),
@@ -58,25 +58,24 @@ fn further(reading: Reading, byte: u8, i: usize) -> Reading {
     Reading { line, lent }
 }
 
-fn turn(script: &[u8], reading: Reading, row: &mut [u32], sound: &mut [u32], kept: &mut [u32]) {
+fn turn(script: &[u8], reading: Reading, row: &mut [u32], sound: &mut [u32]) {
     let line = reading.line;
     if line.ended {
         say_sentence(script, line);
-        obey(line, reading.lent, row, sound, kept);
+        obey(line, reading.lent, row, sound);
     }
 }
 
-fn play(script: &[u8], row: &mut [u32], sound: &mut [u32], kept: &mut [u32]) {
+fn play(script: &[u8], row: &mut [u32], sound: &mut [u32]) {
     let mut reading = begin();
     for i in 0..script.len() {
         reading = further(reading, script[i], i);
-        turn(script, reading, row, sound, kept);
+        turn(script, reading, row, sound);
     }
 }
 
 pub fn whole(script: &[u8]) {
     let mut row = [0u32; board::NUMBERS];
     let mut sound = [0u32; board::NUMBERS];
-    let mut kept = [0u32; board::NUMBERS];
-    play(script, &mut row, &mut sound, &mut kept);
+    play(script, &mut row, &mut sound);
 }

@@ -7,10 +7,10 @@ use Rattle.limits.proofs.play.play.Statement.{statement}
 use Rattle.limits.proofs.play.play.Tie as tie
 
 abbrev Inv-loop : tie.InvT-loop
-Inv-loop script row₀ sound₀ kept₀ reading₀ i₀ i-end row sound kept reading i = (length row ≡ length row₀) × ((length sound ≡ length sound₀) × (length kept ≡ length kept₀))
+Inv-loop script row₀ sound₀ reading₀ i₀ i-end row sound reading i = (length row ≡ length row₀) × (length sound ≡ length sound₀)
 
 abbrev μ-loop : tie.MeasureT-loop
-μ-loop script row₀ sound₀ kept₀ reading₀ i₀ i-end row sound kept reading i = i-end - i
+μ-loop script row₀ sound₀ reading₀ i₀ i-end row sound reading i = i-end - i
 
 pub play-spec : {M : Type 1} → statement M
 play-spec =
@@ -23,7 +23,6 @@ play-spec =
     (λ c. search needs)
     (λ c κs. search needs)
     (λ c κs. search needs)
-    (λ c. search needs)
     (λ c. search needs)
     (λ c. search needs)
     (λ c. search needs)
