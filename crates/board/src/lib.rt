@@ -1,6 +1,7 @@
 // A board as one row of numbers, long enough for the largest sizes and one more of each: the words, the records, the places row
-// by row, and the entries row by row. Programs that try the memory keep such a row, compare it and put it back as a whole. For a
+// by row, and the entries row by row. Programs that try the memory keep what is lent of such a row, compare it and put it back. For a
 // call the four tables are filled from the row, lent, and brought back.
+ghost use Prim.Native.Nat.{_≤_};
 use memory::Looked;
 use std::num::wrapping_add_u32;
 use std::num::wrapping_add_usize;
@@ -54,23 +55,51 @@ pub fn in_entries(entry: usize, column: usize) -> usize {
     FIRST_ENTRY + 5 * entry + column
 }
 
-// One row as the other.
-pub fn copy(from: &[u32], to: &mut [u32]) {
-    for k in 0..to.len() {
+// The lesser of two lengths.
+fn least(length: usize, lent: usize) -> usize
+    ensures { λ r. ⌜ r ≤ length ⌝ }
+{
+    if lent < length { lent } else { length }
+}
+
+// Some numbers of one row put into the other, from one place on.
+fn copy_part(from: &[u32], to: &mut [u32], first: usize, count: usize) {
+    for i in 0..count {
+        let k = wrapping_add_usize(first, i);
         put(to, k, get(from, k));
     }
 }
 
+// What is lent of one row put into the other.
+pub fn copy(from: &[u32], to: &mut [u32], lent: Lent) {
+    copy_part(from, to, 0, lent.words);
+    copy_part(from, to, FIRST_RECORD, lent.records);
+    copy_part(from, to, FIRST_PLACE, 3 * least(TASKS, lent.places));
+    copy_part(from, to, FIRST_ENTRY, 5 * least(RUNS, lent.entries));
+}
+
 // How many numbers of two rows differ, from one place on and no further than `count`.
-fn differing(row: &[u32], other: &[u32], from: usize, count: usize) -> u32 {
+fn differing(row: &[u32], other: &[u32], first: usize, count: usize) -> u32 {
     let mut found = 0;
     for i in 0..count {
-        let k = wrapping_add_usize(from, i);
+        let k = wrapping_add_usize(first, i);
         if get(row, k) != get(other, k) {
             found = wrapping_add_u32(found, 1);
         }
     }
     found
+}
+
+// How many numbers differ of what is lent.
+fn differing_in_all(row: &[u32], other: &[u32], lent: Lent) -> u32 {
+    let words = differing(row, other, 0, lent.words);
+    let records = differing(row, other, FIRST_RECORD, lent.records);
+    let places = differing(row, other, FIRST_PLACE, 3 * least(TASKS, lent.places));
+    let entries = differing(row, other, FIRST_ENTRY, 5 * least(RUNS, lent.entries));
+    wrapping_add_u32(
+        wrapping_add_u32(words, records),
+        wrapping_add_u32(places, entries),
+    )
 }
 
 // How many numbers changed, and how many of them in a task's place.
@@ -79,20 +108,21 @@ pub struct Changed {
     pub own: u32,
 }
 
-pub fn compared(row: &[u32], kept: &[u32], task: usize) -> Changed {
-    let all = differing(row, kept, 0, NUMBERS);
+pub fn compared(row: &[u32], kept: &[u32], lent: Lent, task: usize) -> Changed {
+    let all = differing_in_all(row, kept, lent);
     let own = differing(row, kept, in_places(task, 0), 3);
     Changed { all, own }
 }
 
-fn fill_numbers(table: &mut [u32], row: &[u32], first: usize) {
-    for i in 0..table.len() {
+// As many numbers as are lent.
+fn fill_numbers(table: &mut [u32], row: &[u32], first: usize, lent: usize) {
+    for i in 0..lent {
         put(table, i, get(row, wrapping_add_usize(first, i)));
     }
 }
 
-fn bring_numbers(table: &[u32], row: &mut [u32], first: usize) {
-    for i in 0..table.len() {
+fn bring_numbers(table: &[u32], row: &mut [u32], first: usize, lent: usize) {
+    for i in 0..lent {
         put(row, wrapping_add_usize(first, i), get(table, i));
     }
 }
@@ -133,8 +163,8 @@ fn entry_in(row: &[u32], e: usize) -> [u32; 5] {
     ]
 }
 
-fn fill_entries(entries: &mut [[u32; 5]], row: &[u32]) {
-    for e in 0..entries.len() {
+fn fill_entries(entries: &mut [[u32; 5]], row: &[u32], lent: usize) {
+    for e in 0..least(entries.len(), lent) {
         entries[e] = entry_in(row, e);
     }
 }
@@ -145,8 +175,8 @@ fn put_entry(row: &mut [u32], e: usize, entry: [u32; 5]) {
     }
 }
 
-fn bring_entries(entries: &[[u32; 5]], row: &mut [u32]) {
-    for e in 0..entries.len() {
+fn bring_entries(entries: &[[u32; 5]], row: &mut [u32], lent: usize) {
+    for e in 0..least(entries.len(), lent) {
         put_entry(row, e, entries[e]);
     }
 }
@@ -157,11 +187,12 @@ fn fill(
     places: &mut [[u32; 3]],
     entries: &mut [[u32; 5]],
     row: &[u32],
+    lent: Lent,
 ) {
-    fill_numbers(words, row, 0);
-    fill_numbers(records, row, FIRST_RECORD);
+    fill_numbers(words, row, 0, lent.words);
+    fill_numbers(records, row, FIRST_RECORD, lent.records);
     fill_places(places, row);
-    fill_entries(entries, row);
+    fill_entries(entries, row, lent.entries);
 }
 
 fn bring(
@@ -170,11 +201,12 @@ fn bring(
     places: &[[u32; 3]],
     entries: &[[u32; 5]],
     row: &mut [u32],
+    lent: Lent,
 ) {
-    bring_numbers(words, row, 0);
-    bring_numbers(records, row, FIRST_RECORD);
+    bring_numbers(words, row, 0, lent.words);
+    bring_numbers(records, row, FIRST_RECORD, lent.records);
     bring_places(places, row);
-    bring_entries(entries, row);
+    bring_entries(entries, row, lent.entries);
 }
 
 // A call on the row.
@@ -183,7 +215,14 @@ pub fn ask(call: Call, lent: Lent, row: &mut [u32]) -> Looked {
     let mut records = [0u32; RECORDS];
     let mut places = [[0u32; 3]; TASKS];
     let mut entries = [[0u32; 5]; RUNS];
-    fill(&mut words, &mut records, &mut places, &mut entries, row);
+    fill(
+        &mut words,
+        &mut records,
+        &mut places,
+        &mut entries,
+        row,
+        lent,
+    );
     let seen = trial::ask(
         call,
         lent,
@@ -192,6 +231,6 @@ pub fn ask(call: Call, lent: Lent, row: &mut [u32]) -> Looked {
         &mut places,
         &mut entries,
     );
-    bring(&words, &records, &places, &entries, row);
+    bring(&words, &records, &places, &entries, row, lent);
     seen
 }

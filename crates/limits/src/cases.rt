@@ -18,12 +18,12 @@ struct Seen {
     changed: Changed,
 }
 
-// A call with the whole row kept before and compared after it.
+// A call with all that is lent kept before and compared after it.
 fn asked(call: Call, lent: Lent, row: &mut [u32]) -> Seen {
     let mut kept = [0u32; board::NUMBERS];
-    board::copy(row, &mut kept);
+    board::copy(row, &mut kept, lent);
     let looked = board::ask(call, lent, row);
-    let changed = board::compared(row, &kept, call.task);
+    let changed = board::compared(row, &kept, lent, call.task);
     Seen { looked, changed }
 }
 
@@ -67,32 +67,24 @@ fn case(call: Call, lent: Lent, row: &mut [u32]) {
     }
 }
 
-// A case on a row that was spoiled. Then the row is put back, and the number is told that the same call answers there.
+// A case on a row that was spoiled. Then the row is put back as it was kept, and the number is told that the same call answers
+// there.
 fn spoiled(call: Call, lent: Lent, row: &mut [u32], sound: &[u32]) {
     let kind = call.kind;
     let seen = asked(call, lent, row);
     tell(kind, seen.looked, seen.changed);
-    board::copy(sound, row);
+    board::copy(sound, row, lent);
     let before = board::ask(call, lent, row);
     say_line(b"; before that ", before.number);
-    board::copy(sound, row);
+    board::copy(sound, row, lent);
 }
 
-fn plain(told: u8, call: Call, lent: Lent, row: &mut [u32]) {
-    if told == line::CASE {
-        case(call, lent, row);
-    } else {
-        prepare(call, lent, row);
-    }
-}
-
-// The call of a line. `sound` is the row as the last call left it that was not made on a spoiled one.
-pub fn call(told: u8, call: Call, lent: Lent, row: &mut [u32], sound: &mut [u32]) {
-    if told == line::SPOILED {
-        spoiled(call, lent, row, sound);
-    } else {
-        plain(told, call, lent, row);
-        board::copy(row, sound);
+// The call of a line. `sound` is the row as it was kept.
+pub fn call(told: u8, call: Call, lent: Lent, row: &mut [u32], sound: &[u32]) {
+    match told {
+        line::SPOILED => spoiled(call, lent, row, sound),
+        line::CASE => case(call, lent, row),
+        _ => prepare(call, lent, row),
     }
 }
 
@@ -114,7 +106,6 @@ fn accepted(task: usize, lent: Lent, row: &mut [u32]) -> u32 {
     count
 }
 
-pub fn fill(task: usize, lent: Lent, row: &mut [u32], sound: &mut [u32]) {
+pub fn fill(task: usize, lent: Lent, row: &mut [u32]) {
     say_line(b"addresses accepted: ", accepted(task, lent, row));
-    board::copy(row, sound);
 }

@@ -32,7 +32,8 @@ fn obey(line: Line, lent: Lent, row: &mut [u32], sound: &mut [u32]) {
             cases::call(line.told, call, lent, row, sound)
         }
         Act::Store => store(line, row),
-        Act::Fill => cases::fill(wide(line.numbers[1]), lent, row, sound),
+        Act::Keep => board::copy(row, sound, lent),
+        Act::Fill => cases::fill(wide(line.numbers[1]), lent, row),
         Act::Unknown => say(b"A line has an unknown mark.\n"),
         _ => {}
     }

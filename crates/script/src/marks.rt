@@ -42,6 +42,9 @@ const XP: u32 = 256 * b'X' as u32 + b'P' as u32;
 
 const XE: u32 = 256 * b'X' as u32 + b'E' as u32;
 
+// The board is kept, to be put back after each case on a spoiled one.
+const KP: u32 = 256 * b'K' as u32 + b'P' as u32;
+
 // A task reads the addresses 0 to 63.
 const FL: u32 = 256 * b'F' as u32 + b'L' as u32;
 
@@ -49,6 +52,7 @@ pub enum Act {
     Call(Kind),
     Lend,
     Store,
+    Keep,
     Fill,
     Nothing,
     Unknown,
@@ -67,6 +71,7 @@ pub fn act_of(mark: u32) -> Act {
         LK => Act::Call(Kind::Look),
         SZ | LW | LR | LP | LE => Act::Lend,
         XR | XP | XE => Act::Store,
+        KP => Act::Keep,
         FL => Act::Fill,
         0 => Act::Nothing,
         _ => Act::Unknown,

@@ -1,16 +1,16 @@
 -- `board::bring_entries` is safe and ends: each turn leaves fewer entries, and the slice keeps its length.
 use borrow.Author.Needs.{needs}
-use Prim.Native.Nat.{_-_}
+use Prim.Native.Nat.{_-_, _≤_}
 use mathlib.Core.Path.{_≡_}
 use lib.ListN.{length}
 use Rattle.board.proofs.bring_entries.Statement.{statement}
 use Rattle.board.proofs.bring_entries.Tie as tie
 
 abbrev Inv-loop : tie.InvT-loop
-Inv-loop entries row₀ e₀ e-end row e = length row ≡ length row₀
+Inv-loop entries row₀ lent e₀ e-end row e = (length row ≡ length row₀) × (e-end ≤ length entries)
 
 abbrev μ-loop : tie.MeasureT-loop
-μ-loop entries row₀ e₀ e-end row e = e-end - e
+μ-loop entries row₀ lent e₀ e-end row e = e-end - e
 
 pub bring-entries-spec : {M : Type 1} → statement M
 bring-entries-spec =
@@ -18,6 +18,7 @@ bring-entries-spec =
     (tie.spec
     Inv-loop
     μ-loop
+    (λ c κs. search needs)
     (λ c. search needs)
     (λ c. search needs)
     (λ c. search needs)

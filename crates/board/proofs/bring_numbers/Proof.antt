@@ -7,10 +7,10 @@ use Rattle.board.proofs.bring_numbers.Statement.{statement}
 use Rattle.board.proofs.bring_numbers.Tie as tie
 
 abbrev Inv-loop : tie.InvT-loop
-Inv-loop table row₀ first i₀ i-end row i = length row ≡ length row₀
+Inv-loop table row₀ first lent i₀ row i = length row ≡ length row₀
 
 abbrev μ-loop : tie.MeasureT-loop
-μ-loop table row₀ first i₀ i-end row i = i-end - i
+μ-loop table row₀ first lent i₀ row i = lent - i
 
 pub bring-numbers-spec : {M : Type 1} → statement M
 bring-numbers-spec =

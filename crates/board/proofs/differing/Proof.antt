@@ -5,10 +5,10 @@ use Rattle.board.proofs.differing.Statement.{statement}
 use Rattle.board.proofs.differing.Tie as tie
 
 abbrev Inv-loop : tie.InvT-loop
-Inv-loop row other from count found₀ i₀ found i = Unit {0}
+Inv-loop row other first count found₀ i₀ found i = Unit {0}
 
 abbrev μ-loop : tie.MeasureT-loop
-μ-loop row other from count found₀ i₀ found i = count - i
+μ-loop row other first count found₀ i₀ found i = count - i
 
 pub differing-spec : {M : Type 1} → statement M
 differing-spec =

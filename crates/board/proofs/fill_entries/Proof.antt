@@ -1,16 +1,16 @@
 -- `board::fill_entries` is safe and ends: each turn leaves fewer entries, and the slice keeps its length.
 use borrow.Author.Needs.{needs}
-use Prim.Native.Nat.{_-_}
+use Prim.Native.Nat.{_-_, _≤_}
 use mathlib.Core.Path.{_≡_}
 use lib.ListN.{length}
 use Rattle.board.proofs.fill_entries.Statement.{statement}
 use Rattle.board.proofs.fill_entries.Tie as tie
 
 abbrev Inv-loop : tie.InvT-loop
-Inv-loop entries₀ row e₀ e-end entries e = length entries ≡ length entries₀
+Inv-loop entries₀ row lent e₀ e-end entries e = (length entries ≡ length entries₀) × (e-end ≤ length entries₀)
 
 abbrev μ-loop : tie.MeasureT-loop
-μ-loop entries₀ row e₀ e-end entries e = e-end - e
+μ-loop entries₀ row lent e₀ e-end entries e = e-end - e
 
 pub fill-entries-spec : {M : Type 1} → statement M
 fill-entries-spec =
@@ -18,6 +18,7 @@ fill-entries-spec =
     (tie.spec
     Inv-loop
     μ-loop
+    (λ c κs. search needs)
     (λ c. search needs)
     (λ c κs. search needs)
     (λ c. search needs)

@@ -7,10 +7,10 @@ use Rattle.board.proofs.fill_numbers.Statement.{statement}
 use Rattle.board.proofs.fill_numbers.Tie as tie
 
 abbrev Inv-loop : tie.InvT-loop
-Inv-loop table₀ row first i₀ i-end table i = length table ≡ length table₀
+Inv-loop table₀ row first lent i₀ table i = length table ≡ length table₀
 
 abbrev μ-loop : tie.MeasureT-loop
-μ-loop table₀ row first i₀ i-end table i = i-end - i
+μ-loop table₀ row first lent i₀ table i = lent - i
 
 pub fill-numbers-spec : {M : Type 1} → statement M
 fill-numbers-spec =
