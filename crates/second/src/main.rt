@@ -1,125 +1,59 @@
-// An independent second machine beside the memory, on random schedules. After every call both are compared.
+// An independent second machine beside the memory, on random schedules. After every call the number and the values that both answered
+// are compared, and then the logical value and version of every address of the board.
+mod boards;
 mod both;
+mod dice;
 mod drawn;
-mod layout;
-mod machine;
 mod report;
-mod store;
+mod tally;
 
-use both::differing;
-use both::turn;
-use drawn::Board;
-use trial::Call;
-use trial::Kind;
+use drawn::Turn;
+use tally::Tally;
 
-const SEED: u32 = 20031026;
+// The calls of 640 schedules.
+const CALLS: usize = 130400;
 
-const COUNT: usize = 640;
-
-fn turns(
-    board: Board,
-    words: &mut [u32],
-    records: &mut [u32],
-    places: &mut [[u32; 3]],
-    entries: &mut [[u32; 5]],
-    m: &mut [u32],
-    tally: &mut [u32],
-    schedule: usize,
-) {
-    for index in 0..board.calls {
-        turn(
-            board,
-            words,
-            records,
-            places,
-            entries,
-            m,
-            tally,
-            schedule,
-            index,
-        );
-    }
-}
-
-// A fresh board on both sides.
-fn begin(
-    board: Board,
-    words: &mut [u32],
-    records: &mut [u32],
-    places: &mut [[u32; 3]],
-    entries: &mut [[u32; 5]],
-    m: &mut [u32],
-) {
-    let open = Call {
-        kind: Kind::Open,
-        task: 0,
-        address: 0,
-        value: board.first,
-    };
-    trial::ask(open, board.lent, words, records, places, entries);
-    layout::clear(m, board.first);
-}
-
-// The calls of a schedule, and then every address.
+// The call of a turn of both, compared, and then every address.
 fn play(
-    board: Board,
+    turn: Turn,
+    counts: Tally,
     words: &mut [u32],
     records: &mut [u32],
     places: &mut [[u32; 3]],
     entries: &mut [[u32; 5]],
     m: &mut [u32],
-    tally: &mut [u32],
-    schedule: usize,
-) {
-    turns(board, words, records, places, entries, m, tally, schedule);
-    let lent = board.lent;
-    let found = differing(lent, words, records, places, entries, m, 0, lent.words);
-    drawn::count_schedule(tally, found == 0, schedule, board.calls);
+) -> Tally {
+    let drawn = drawn::call_of(turn, m);
+    let got = trial::ask(drawn.call, drawn.lent, words, records, places, entries);
+    let wanted = serial::ask(drawn.call, drawn.lent, m);
+    let agreed = both::agreeing_on(drawn.own, words, records, places, entries, m);
+    let same = both::same(got, wanted, agreed, drawn.own);
+    tally::called(counts, turn, got.number, agreed, same)
 }
 
-// The schedule of a number, on its board.
-fn one(
-    schedule: usize,
+fn play_all(
     words: &mut [u32],
     records: &mut [u32],
     places: &mut [[u32; 3]],
     entries: &mut [[u32; 5]],
     m: &mut [u32],
-    tally: &mut [u32],
-) {
-    let board = drawn::board_of(schedule, tally);
-    begin(board, words, records, places, entries, m);
-    play(board, words, records, places, entries, m, tally, schedule);
-}
-
-fn all(
-    words: &mut [u32],
-    records: &mut [u32],
-    places: &mut [[u32; 3]],
-    entries: &mut [[u32; 5]],
-    m: &mut [u32],
-    tally: &mut [u32],
-) {
-    for schedule in 0..COUNT {
-        one(schedule, words, records, places, entries, m, tally);
+) -> Tally {
+    let mut counts = tally::nothing();
+    let mut next = drawn::first();
+    for _ in 0..CALLS {
+        let turn = next;
+        next = drawn::after(turn);
+        counts = play(turn, counts, words, records, places, entries, m);
     }
+    counts
 }
 
 fn main() {
     let mut words = [0u32; memory::MOST_WORDS];
     let mut records = [0u32; memory::MOST_RECORDS];
     let mut places = [[0u32; 3]; memory::MOST_TASKS];
-    let mut entries = [[0u32; 5]; 2048];
-    let mut m = [0u32; layout::NUMBERS];
-    let mut tally = [0u32; drawn::TALLY];
-    trial::put(&mut tally, drawn::STATE, SEED);
-    all(
-        &mut words,
-        &mut records,
-        &mut places,
-        &mut entries,
-        &mut m,
-        &mut tally,
-    );
-    report::print(&tally);
+    let mut entries = [[0u32; 5]; memory::MOST_ENTRIES * memory::MOST_TASKS];
+    let mut m = [0u32; ledger::NUMBERS];
+    let counts = play_all(&mut words, &mut records, &mut places, &mut entries, &mut m);
+    report::print(counts);
 }

@@ -1,6 +1,5 @@
 // The tally as text on standard output.
-use crate::drawn;
-use trial::get;
+use crate::tally::Tally;
 
 const STANDARD_OUTPUT: i32 = 1;
 
@@ -11,36 +10,53 @@ fn line(name: &[u8], n: u32) {
     io::write_all(STANDARD_OUTPUT, b"\n");
 }
 
-fn answers(tally: &[u32], name: &[u8], number: usize) {
-    if number < drawn::TALLY {
-        line(name, get(tally, drawn::ANSWERS + number));
+fn answered(tally: Tally, number: usize, name: &[u8]) {
+    if number < 24 {
+        line(name, tally.answers[number]);
     }
 }
 
-fn refusals(tally: &[u32]) {
-    answers(tally, b"1, unsound", 1);
-    answers(tally, b"2, out of range", 2);
-    answers(tally, b"3, no such task", 3);
-    answers(tally, b"4, not in this phase", 4);
-    answers(tally, b"5, no such address", 5);
-    answers(tally, b"6, 64 entries", 6);
-    answers(tally, b"7, nothing to wait for", 7);
-    answers(tally, b"8, no version left", 8);
-    answers(tally, b"9, overtaken", 9);
+fn played(tally: Tally) {
+    line(b"schedules", tally.schedules);
+    line(b"calls", tally.calls);
+    line(b"addresses found the same", tally.addresses);
 }
 
-pub fn print(tally: &[u32]) {
-    line(b"schedules", get(tally, drawn::SCHEDULES));
-    line(b"calls", get(tally, drawn::CALLS));
-    answers(tally, b"0, done", 0);
-    refusals(tally);
-    answers(tally, b"20, asleep", 20);
-    answers(tally, b"21, committed", 21);
-    answers(tally, b"22, failed", 22);
-    answers(tally, b"23, woken", 23);
-    line(b"differences", get(tally, drawn::DIFFERENCES));
-    if get(tally, drawn::DIFFERENCES) != 0 {
-        line(b"first at schedule", get(tally, drawn::FIRST_SCHEDULE));
-        line(b"first at its call", get(tally, drawn::FIRST_CALL));
+fn first_answers(tally: Tally) {
+    answered(tally, 0, b"0, done");
+    answered(tally, 1, b"1, unsound");
+    answered(tally, 2, b"2, out of range");
+    answered(tally, 3, b"3, no such task");
+    answered(tally, 4, b"4, not in this phase");
+}
+
+fn answers_of_entries(tally: Tally) {
+    answered(tally, 5, b"5, no such address");
+    answered(tally, 6, b"6, 64 entries");
+    answered(tally, 7, b"7, nothing to wait for");
+    answered(tally, 8, b"8, no version left");
+    answered(tally, 9, b"9, overtaken");
+}
+
+fn answers_of_steps(tally: Tally) {
+    answered(tally, 20, b"20, asleep");
+    answered(tally, 21, b"21, committed");
+    answered(tally, 22, b"22, failed");
+    answered(tally, 23, b"23, woken");
+}
+
+fn differences(tally: Tally) {
+    line(b"differences", tally.differences);
+    if tally.differences != 0 {
+        line(b"first at schedule", tally.first_schedule);
+        line(b"first at its call", tally.first_call);
     }
+}
+
+pub fn print(tally: Tally) {
+    played(tally);
+    first_answers(tally);
+    answers_of_entries(tally);
+    answers_of_steps(tally);
+    differences(tally);
 }

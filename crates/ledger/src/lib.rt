@@ -2,7 +2,6 @@
 // version for each record, which a transaction changes all at once at its deciding step, so that no word is looked up through
 // an owner. Beside the board each task has its log, an address and a value a line, and three numbers for each record: the version
 // that the task saw there (0: none), whether it wrote there, and whether it holds it. All stand in one slice of numbers, `m`.
-use crate::store::left_of;
 use std::num::wrapping_add_u32;
 use trial::get;
 use trial::narrow;
@@ -80,6 +79,11 @@ pub fn set(m: &mut [u32], t: usize, kind: usize, i: usize, v: u32) {
     put(m, place(t, kind, i), v);
 }
 
+// The record of an address.
+pub fn record_of(a: usize, records: usize) -> usize {
+    if records == 0 { 0 } else { a % records }
+}
+
 pub fn value(m: &[u32], a: usize) -> u32 {
     if a < VERSIONS { get(m, a) } else { 0 }
 }
@@ -149,9 +153,17 @@ pub fn holder(m: &[u32], tasks: usize, r: usize) -> usize {
     tasks
 }
 
-// A line for a new address: the value on the board, and the version of its record as seen.
+// The value that a task's log has for an address.
+pub fn news_of(m: &[u32], t: usize, a: usize) -> u32 {
+    at(m, t, NEWS, line_of(m, t, a))
+}
+
+// A line for an address that has none: the value on the board, and the version of its record as seen.
 pub fn add_line(m: &mut [u32], t: usize, a: usize, r: usize) {
     let n = lines(m, t);
+    if line_of(m, t, a) < n {
+        return;
+    }
     let news = value(m, a);
     let seen = version(m, r);
     set(m, t, ADDRESSES, n, narrow(a));
@@ -160,10 +172,17 @@ pub fn add_line(m: &mut [u32], t: usize, a: usize, r: usize) {
     set(m, t, LINES, 0, wrapping_add_u32(narrow(n), 1));
 }
 
+// The line of an address takes a value, and its record counts as written.
+pub fn write_line(m: &mut [u32], t: usize, a: usize, r: usize, v: u32) {
+    let i = line_of(m, t, a);
+    set(m, t, NEWS, i, v);
+    set(m, t, WROTE, r, 1);
+}
+
 // Idle again, and the log dropped.
 pub fn end(m: &mut [u32], records: usize, t: usize) {
     for i in 0..lines(m, t) {
-        let r = left_of(address(m, t, i), records);
+        let r = record_of(address(m, t, i), records);
         set(m, t, SEEN, r, 0);
         set(m, t, WROTE, r, 0);
     }
@@ -171,23 +190,32 @@ pub fn end(m: &mut [u32], records: usize, t: usize) {
     go(m, t, IDLE, 0);
 }
 
-// The deciding step of a commit: the board takes the value of every line, and each record of the log its new version.
-pub fn decide(m: &mut [u32], records: usize, t: usize) {
+// The board takes the value of a line, and the line's record its new version.
+fn settle(m: &mut [u32], records: usize, t: usize, i: usize) {
+    let a = address(m, t, i);
+    let r = record_of(a, records);
+    let news = at(m, t, NEWS, i);
+    let raised = wrapping_add_u32(at(m, t, SEEN, r), at(m, t, WROTE, r));
+    set_value(m, a, news);
+    set_version(m, r, raised);
+}
+
+// What a commit decides, all at once.
+pub fn settle_all(m: &mut [u32], records: usize, t: usize) {
     for i in 0..lines(m, t) {
-        let a = address(m, t, i);
-        let r = left_of(a, records);
-        let news = at(m, t, NEWS, i);
-        let raised = wrapping_add_u32(at(m, t, SEEN, r), at(m, t, WROTE, r));
-        set_value(m, a, news);
-        set_version(m, r, raised);
+        settle(m, records, t, i);
+    }
+}
+
+fn wipe(m: &mut [u32]) {
+    for i in 0..m.len() {
+        put(m, i, 0);
     }
 }
 
 // A fresh board, and every task Idle.
 pub fn clear(m: &mut [u32], first: u32) {
-    for i in 0..m.len() {
-        put(m, i, 0);
-    }
+    wipe(m);
     for r in 0..STRETCHES - VERSIONS {
         set_version(m, r, first);
     }
