@@ -53,19 +53,19 @@ pub fn open_board(
     ensures { λ r. ⌜ replied r (memory (now (words .exit)) (now (records .exit)) (now (places .exit)) (now (entries .exit)))
         ≡ openBoard sizes first (memory (now (words .entry)) (now (records .entry)) (now (places .entry)) (now (entries .entry))) ⌝ }
 {
-    if !sound::sizes_ok(sizes) {
+    if !parts::sizes_ok(sizes) {
         return Answer {
             number: 2,
             value: 0,
         };
     }
-    if !sound::in_range(1, memory::TOP_VERSION as usize, first as usize) {
+    if !parts::in_range(1, memory::TOP_VERSION as usize, first as usize) {
         return Answer {
             number: 2,
             value: 0,
         };
     }
-    if !sound::lengths_ok(sizes, words, records, places, entries) {
+    if !parts::lengths_ok(sizes, words, records, places, entries) {
         return Answer {
             number: 1,
             value: 0,

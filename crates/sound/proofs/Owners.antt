@@ -16,9 +16,10 @@ use Rattle.memory.specs.declared.Place.{Place}
 use Rattle.memory.specs.declared.Entry.{Entry}
 use Rattle.memory.specs.Pieces.{if_then_else_, Memory, steps, heldOf, held, firstOwner, place, placeOf, entry, limit}
 use Rattle.memory.specs.Sound.{allBelow, someBelow, countsFrom, ownerOk, heldOk, taskOk}
-use Rattle.sound.specs.Parts.{ownsFrom, recordOk, recordsOk}
+use Rattle.parts.specs.Parts.{ownsFrom, recordOk}
+use Rattle.sound.specs.Walk.{recordsOk}
 use Rattle.memory.proofs.Tools.{same?, or-right-make, and-0, below-at}
-use Rattle.sound.proofs.Tests.{or-none, and-false, below-same, after-set}
+use Rattle.parts.proofs.Tests.{or-none, and-false, below-same, after-set}
 use Rattle.sound.proofs.Pairs.{count-most}
 
 -- of the first i entries, one from place `from` on is on record r

@@ -11,9 +11,9 @@ use Rattle.memory.specs.declared.Sizes.{Sizes}
 use Rattle.memory.specs.declared.Entry.{Entry}
 use Rattle.memory.specs.Pieces.{Memory, placeOf, place, entry, limit}
 use Rattle.memory.specs.Sound.{allBelow, apart, entryOk, entriesOk, placeOk, taskOk}
-use Rattle.sound.specs.Parts.{agree}
+use Rattle.parts.specs.Parts.{agree}
 use Rattle.memory.proofs.Tools.{and-0, and-1, below-make}
-use Rattle.sound.proofs.Tests.{and-false, below-fault, after-set}
+use Rattle.parts.proofs.Tests.{and-false, below-fault, after-set}
 
 -- two entries on one record agree or are a fault; on two records they are apart
 module _ (n : ℕ) (e f : Entry) where

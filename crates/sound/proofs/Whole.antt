@@ -5,28 +5,16 @@ use mathlib.Core.Path.{_≡_, refl}
 use mathlib.Core.List.{List, []}
 use mathlib.Core.Bool.{Bool, true, false, _&&_}
 use lib.ListN.{length, getD}
-use borrow.Author.Tests.{leb-true, eqb-true}
+use borrow.Author.Tests.{eqb-true}
 use Rattle.memory.specs.declared.Sizes.{Sizes}
 use Rattle.memory.specs.declared.Held.{Held}
 use Rattle.memory.specs.declared.Held.the-variants.{Version, Owner}
 use Rattle.memory.specs.Pieces.{memory, heldOf, held, place, entry, limit}
-use Rattle.memory.specs.Sound.{within, sizesOk, lengthsOk, taskOk, heldOk, sound}
-use Rattle.sound.specs.Parts.{Fit, tablesOk}
+use Rattle.memory.specs.Sound.{sizesOk, lengthsOk, taskOk, heldOk, sound}
+use Rattle.sound.specs.Walk.{Fit, tablesOk}
 use Rattle.memory.proofs.Tools.{and-0, and-1}
-use Rattle.sound.proofs.Tests.{below-same}
-
-module _ (low high n : ℕ) (h : within low high n ≡ true) where
-  pub within-low : low ≤ n
-  unfolding within
-  within-low = leb-true low n (search (and-0))
-
-  pub within-high : n ≤ high
-  unfolding within
-  within-high = leb-true n high (search (and-1))
-
-pub tasks-most : (z : Sizes) → sizesOk z ≡ true → z .tasks ≤ 32
-unfolding sizesOk
-tasks-most z h = within-high 1 32 (z .tasks) (search (and-1))
+use Rattle.parts.proofs.Ranges.{within-low, within-high}
+use Rattle.parts.proofs.Tests.{below-same}
 
 module _ (z : Sizes) (w r : List ℕ) (p e : List (List ℕ)) where
   pub fit : (sizesOk z && lengthsOk z (memory w r p e)) ≡ true → Fit z (memory [] r p e)

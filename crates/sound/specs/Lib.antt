@@ -1,2 +1,2 @@
--- What the contracts of the check's inner functions cite beside crate memory's definitions. No proof stands here.
-pub mod Parts
+-- What the contracts of the walk cite. No proof stands here.
+pub mod Walk

@@ -1,7 +1,7 @@
 -- `calls::commit` meets its contract: 1 on an unsound table, and otherwise what the call on a sound one says.
 use borrow.Author.Needs.{needs}
 use Rattle.memory.specs.Calls.{CM, call}
-use Rattle.sound.proofs.Tests.{refused, passed}
+use Rattle.parts.proofs.Tests.{refused, passed}
 use Rattle.calls.proofs.Refusals.{unsound-reply}
 use Rattle.calls.proofs.commit.Statement.{statement}
 use Rattle.calls.proofs.commit.Tie as tie

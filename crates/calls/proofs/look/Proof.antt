@@ -5,7 +5,7 @@ use native.Mathlib.Omega.{arith}
 use borrow.Author.Needs.{needs}
 use Rattle.memory.specs.Pieces.{memory}
 use Rattle.memory.specs.Sound.{sound}
-use Rattle.sound.proofs.Tests.{refused, passed}
+use Rattle.parts.proofs.Tests.{refused, passed}
 use Rattle.calls.proofs.Refusals.{unsound-look, past-the-words, seen}
 use Rattle.calls.proofs.look.Statement.{statement}
 use Rattle.calls.proofs.look.Tie as tie

@@ -5,7 +5,7 @@ use borrow.Author.Needs.{needs}
 use Rattle.memory.specs.Pieces.{memory, topVersion}
 use Rattle.memory.specs.Sound.{within, sizesOk}
 use Rattle.memory.specs.Numbers.{reply}
-use Rattle.sound.proofs.Tests.{refused, passed}
+use Rattle.parts.proofs.Tests.{refused, passed}
 use Rattle.opening.proofs.Opens.{no-size, no-version, no-length, opens}
 use Rattle.opening.proofs.open_board.Statement.{statement}
 use Rattle.opening.proofs.open_board.Tie as tie

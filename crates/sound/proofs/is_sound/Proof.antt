@@ -6,7 +6,7 @@ use denote.Ref.{now}
 use borrow.Author.Needs.{needs}
 use Rattle.memory.specs.Pieces.{memory}
 use Rattle.memory.specs.Sound.{sizesOk, lengthsOk}
-use Rattle.sound.proofs.Tests.{and-then, and-stop}
+use Rattle.parts.proofs.Tests.{and-then, and-stop}
 use Rattle.sound.proofs.Whole.{fit, parts}
 use Rattle.sound.proofs.is_sound.Statement.{statement}
 use Rattle.sound.proofs.is_sound.Tie as tie

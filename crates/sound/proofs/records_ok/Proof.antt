@@ -6,8 +6,8 @@ use native.Mathlib.Omega.{arith}
 use lib.ListN.{length}
 use borrow.Author.Needs.{needs}
 use Rattle.memory.specs.Sound.{allBelow}
-use Rattle.sound.specs.Parts.{recordsOk}
-use Rattle.sound.proofs.Tests.{refused, passed, below-more, below-all, below-fault}
+use Rattle.sound.specs.Walk.{recordsOk}
+use Rattle.parts.proofs.Tests.{refused, passed, below-more, below-all, below-fault}
 use Rattle.sound.proofs.records_ok.Statement.{statement}
 use Rattle.sound.proofs.records_ok.Tie as tie
 

@@ -13,9 +13,9 @@ use Rattle.memory.specs.Pieces.{Memory, memory, placeOf, place, entryOf, runSta
 use Rattle.memory.specs.Pieces as pieces
 use Rattle.memory.specs.declared.Sizes.{Sizes}
 use Rattle.memory.specs.Sound.{allBelow, entriesOk, placeOk, taskOk}
-use Rattle.sound.specs.Parts.{tablesOk}
+use Rattle.sound.specs.Walk.{tablesOk}
 use Rattle.memory.proofs.Tools.{and-make}
-use Rattle.sound.proofs.Tests.{refused, passed, and-then, and-stop, below-more, below-all}
+use Rattle.parts.proofs.Tests.{refused, passed, and-then, and-stop, below-more, below-all}
 use Rattle.sound.proofs.Pairs.{apartBelow, apart-one, apart-two, Noted, noted-none, noted-more, fresh, place-fault, entry-fault, pair-fault, count-most}
 use Rattle.sound.proofs.Owners.{Vouched, vouched-none, vouched-next, vouched-early, vouched-other, vouched-more, records-same}
 use Rattle.sound.proofs.tables_ok.Statement.{statement}

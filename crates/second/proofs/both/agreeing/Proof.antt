@@ -6,7 +6,7 @@ use native.Mathlib.Omega.{arith}
 use borrow.Author.Needs.{needs}
 use Rattle.memory.specs.Pieces.{memory}
 use Rattle.memory.specs.Sound.{sound}
-use Rattle.sound.proofs.Tests.{passed}
+use Rattle.parts.proofs.Tests.{passed}
 use Rattle.second.proofs.both.agreeing.Statement.{statement}
 use Rattle.second.proofs.both.agreeing.Tie as tie
 

@@ -12,9 +12,9 @@ use Rattle.memory.specs.declared.Sizes.{Sizes}
 use Rattle.memory.specs.declared.Phase.the-variants.{Idle}
 use Rattle.memory.specs.Pieces.{if_then_else_, rowOf, placeOf, phaseOf, phasesAt, positionOf, limit, bare}
 use Rattle.memory.specs.Sound.{rowEqb, placeOk}
-use Rattle.sound.specs.Parts.{ownsFrom}
+use Rattle.parts.specs.Parts.{ownsFrom}
 use Rattle.memory.proofs.Tools.{same?}
-use Rattle.sound.proofs.Tests.{and-one, and-none}
+use Rattle.parts.proofs.Tests.{and-one, and-none}
 
 pub row-3 : (row : List ℕ) → length row ≡ 3 → row ≡ getD row 0 0 ∷ getD row 1 0 ∷ getD row 2 0 ∷ []
 row-3 [] h = absurd (omega arith)

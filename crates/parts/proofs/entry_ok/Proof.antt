@@ -7,11 +7,11 @@ use lib.ListN.{getD}
 use borrow.Author.Tests.{lt-ltb, le-ltb, eq-eqb, ne-eqb}
 use Rattle.memory.specs.Pieces.{entryOf, topVersion}
 use Rattle.memory.specs.Sound.{within, entryOk}
-use Rattle.sound.proofs.Tests.{refused, passed}
-use Rattle.sound.proofs.Whole.{within-high}
+use Rattle.parts.proofs.Tests.{refused, passed}
+use Rattle.parts.proofs.Ranges.{within-high}
 use borrow.Author.Needs.{needs}
-use Rattle.sound.proofs.entry_ok.Statement.{statement}
-use Rattle.sound.proofs.entry_ok.Tie as tie
+use Rattle.parts.proofs.entry_ok.Statement.{statement}
+use Rattle.parts.proofs.entry_ok.Tie as tie
 
 returns : tie.Need-returns
 unfolding entryOk entryOf

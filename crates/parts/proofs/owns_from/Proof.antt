@@ -5,10 +5,10 @@ use Prim.Native.Nat.{_≤_}
 use lib.ListN.{getD}
 use borrow.Author.Tests.{lt-ltb, le-ltb, le-leb, lt-leb}
 use Rattle.memory.specs.Pieces.{placeOf}
-use Rattle.sound.proofs.Rows.{phase-most, owns-row}
+use Rattle.parts.proofs.Rows.{phase-most, owns-row}
 use borrow.Author.Needs.{needs}
-use Rattle.sound.proofs.owns_from.Statement.{statement}
-use Rattle.sound.proofs.owns_from.Tie as tie
+use Rattle.parts.proofs.owns_from.Statement.{statement}
+use Rattle.parts.proofs.owns_from.Tie as tie
 
 three : (c : tie.Start) → length (c .args .t2) ≡ 3
 three c = search needs

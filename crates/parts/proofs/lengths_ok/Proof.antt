@@ -9,10 +9,10 @@ use denote.Ref.{now}
 use borrow.Author.Tests.{eq-eqb, ne-eqb}
 use Rattle.memory.specs.Pieces.{limit}
 use Rattle.memory.specs.Sound.{lengthsOk}
-use Rattle.sound.proofs.Tests.{and-then, and-stop}
-use Rattle.sound.proofs.Whole.{tasks-most}
-use Rattle.sound.proofs.lengths_ok.Statement.{statement}
-use Rattle.sound.proofs.lengths_ok.Tie as tie
+use Rattle.parts.proofs.Tests.{and-then, and-stop}
+use Rattle.parts.proofs.Ranges.{tasks-most}
+use Rattle.parts.proofs.lengths_ok.Statement.{statement}
+use Rattle.parts.proofs.lengths_ok.Tie as tie
 
 mul-result : tie.Need-mul-result
 mul-result c = omega (arith, tasks-most _ (c .before .before .before .before .before .pre))

@@ -1,13 +1,13 @@
 -- Two entries on one record, number by number.
 use mathlib.Core.Path.{ap, refl}
 use mathlib.Core.Bool.{not}
-use Rattle.sound.proofs.Tests.{and-then, and-stop}
+use Rattle.parts.proofs.Tests.{and-then, and-stop}
 use borrow.Author.Tests.{eq-eqb, ne-eqb}
 use Rattle.memory.specs.Pieces.{entryOf}
-use Rattle.sound.specs.Parts.{agree}
+use Rattle.parts.specs.Parts.{agree}
 use borrow.Author.Needs.{needs}
-use Rattle.sound.proofs.agree.Statement.{statement}
-use Rattle.sound.proofs.agree.Tie as tie
+use Rattle.parts.proofs.agree.Statement.{statement}
+use Rattle.parts.proofs.agree.Tie as tie
 
 returns : tie.Need-returns
 unfolding agree entryOf

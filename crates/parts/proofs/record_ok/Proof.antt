@@ -3,10 +3,10 @@ use native.Mathlib.Omega.{arith}
 use borrow.Author.Tests.{lt-ltb, le-ltb, le-leb}
 use Rattle.memory.specs.Pieces.{heldOf}
 use Rattle.memory.specs.Sound.{within}
-use Rattle.sound.specs.Parts.{recordOk}
-use Rattle.sound.proofs.Tests.{and-one}
-use Rattle.sound.proofs.record_ok.Statement.{statement}
-use Rattle.sound.proofs.record_ok.Tie as tie
+use Rattle.parts.specs.Parts.{recordOk}
+use Rattle.parts.proofs.Tests.{and-one}
+use Rattle.parts.proofs.record_ok.Statement.{statement}
+use Rattle.parts.proofs.record_ok.Tie as tie
 
 returns : tie.Need-returns
 unfolding recordOk heldOf within

@@ -4,9 +4,9 @@ use mathlib.Core.Logic.{⊎-elim}
 use mathlib.Core.Bool.{_&&_}
 use borrow.Author.Needs.{needs}
 use Rattle.memory.specs.Sound.{within, sizesOk}
-use Rattle.sound.proofs.Tests.{and-then, and-stop}
-use Rattle.sound.proofs.sizes_ok.Statement.{statement}
-use Rattle.sound.proofs.sizes_ok.Tie as tie
+use Rattle.parts.proofs.Tests.{and-then, and-stop}
+use Rattle.parts.proofs.sizes_ok.Statement.{statement}
+use Rattle.parts.proofs.sizes_ok.Tie as tie
 
 two : (c : tie.Joined1) → let z = c .before .before .args .sizes in c .if1 .if2 ≡ (within 1 4096 (z .words) && within 1 1024 (z .records))
 two c =

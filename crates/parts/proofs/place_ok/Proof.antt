@@ -8,11 +8,11 @@ use lib.ListN.{length, getD}
 use borrow.Author.Tests.{eq-eqb, ne-eqb}
 use Rattle.memory.specs.Pieces.{placeOf}
 use Rattle.memory.specs.Sound.{placeOk}
-use Rattle.sound.proofs.Tests.{and-then, and-stop}
-use Rattle.sound.proofs.Rows.{row-3, rowOk, row-many, row-past, row-idle, row-open, row-asleep, row-placed}
+use Rattle.parts.proofs.Tests.{and-then, and-stop}
+use Rattle.parts.proofs.Rows.{row-3, rowOk, row-many, row-past, row-idle, row-open, row-asleep, row-placed}
 use borrow.Author.Needs.{needs}
-use Rattle.sound.proofs.place_ok.Statement.{statement}
-use Rattle.sound.proofs.place_ok.Tie as tie
+use Rattle.parts.proofs.place_ok.Statement.{statement}
+use Rattle.parts.proofs.place_ok.Tie as tie
 
 three : (c : tie.Start) → length (c .args .t2) ≡ 3
 three c = search needs

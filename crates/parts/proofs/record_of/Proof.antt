@@ -5,8 +5,8 @@ use native.Mathlib.Nat.{mod-lt}
 use lib.ListN.{getD}
 use Rattle.memory.specs.Pieces.{entryOf}
 use borrow.Author.Needs.{needs}
-use Rattle.sound.proofs.record_of.Statement.{statement}
-use Rattle.sound.proofs.record_of.Tie as tie
+use Rattle.parts.proofs.record_of.Statement.{statement}
+use Rattle.parts.proofs.record_of.Tie as tie
 
 cast-result-2 : tie.Need-cast-result-2
 cast-result-2 c = omega (arith, mod-lt (getD (c .before .args .t2) 0 0) (c .before .pre .0), c .before .pre .1)

@@ -1,8 +1,8 @@
 -- `in_range` is `within`.
 use borrow.Author.Tests.{le-leb, lt-leb}
 use Rattle.memory.specs.Sound.{within}
-use Rattle.sound.proofs.in_range.Statement.{statement}
-use Rattle.sound.proofs.in_range.Tie as tie
+use Rattle.parts.proofs.in_range.Statement.{statement}
+use Rattle.parts.proofs.in_range.Tie as tie
 
 returns : tie.Need-returns
 unfolding within

@@ -1,0 +1,4 @@
+-- Laws that proofs of the check share, here and in the crates above.
+pub mod Tests
+pub mod Ranges
+pub mod Rows

@@ -1,0 +1,26 @@
+-- What the contracts of a table's parts cite beside crate memory's definitions.
+use Prim.Native.Nat.{ℕ}
+use mathlib.Core.Bool.{Bool, not, _&&_}
+use lib.Dec.{eqb}
+use Rattle.memory.specs.declared.Sizes.{Sizes}
+use Rattle.memory.specs.declared.Held.{Held}
+use Rattle.memory.specs.declared.Held.the-variants.{Version, Owner}
+use Rattle.memory.specs.declared.Place.{Place}
+use Rattle.memory.specs.declared.Entry.{Entry}
+use Rattle.memory.specs.Pieces.{if_then_else_, steps, limit, topVersion}
+use Rattle.memory.specs.Sound.{within, countsFrom}
+
+-- two entries on one record: other addresses, and the same versions
+unfoldable pub agree : Entry → Entry → Bool
+agree e f =
+    not (eqb (e .address) (f .address))
+    && (eqb (e .old .version) (f .old .version) && eqb (e .new .version) (f .new .version))
+
+-- the first entry by which a task may own a record: none, where the phase owns nothing
+unfoldable pub ownsFrom : Sizes → Place → ℕ
+ownsFrom z q = if steps (q .phase) then countsFrom (q .phase) else limit z
+
+-- what a record holds, where it is known whether its owner has an entry on it
+unfoldable pub recordOk : Held → Bool → Bool
+recordOk (Version v) owned = within 1 topVersion v
+recordOk (Owner t) owned = owned
