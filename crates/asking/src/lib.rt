@@ -48,6 +48,7 @@ pub fn ask(
         ≡ spec.requested sizes first (memory (now (words .entry)) (now (records .entry)) (now (places .entry)) (now (entries .entry))) kind (now (body .entry)) ⌝ }
 {
     let task = task_of(body);
+    let address = address_of(body);
     match kind {
         Kind::Open => calls::open_board(sizes, first, words, records, places, entries),
         Kind::Start => calls::start(sizes, words, records, places, entries, task),
@@ -55,24 +56,10 @@ pub fn ask(
         Kind::Abort => calls::abort(sizes, words, records, places, entries, task),
         Kind::Wait => calls::wait(sizes, words, records, places, entries, task),
         Kind::Step => calls::step(sizes, words, records, places, entries, task),
-        Kind::Read => calls::read(
-            sizes,
-            words,
-            records,
-            places,
-            entries,
-            task,
-            address_of(body),
-        ),
-        Kind::Write => calls::write(
-            sizes,
-            words,
-            records,
-            places,
-            entries,
-            task,
-            address_of(body),
-            session::four_at(body, 3),
-        ),
+        Kind::Read => calls::read(sizes, words, records, places, entries, task, address),
+        Kind::Write => {
+            let value = session::four_at(body, 3);
+            calls::write(sizes, words, records, places, entries, task, address, value)
+        }
     }
 }

@@ -18,48 +18,49 @@ returns-2 : tie.Need-returns-2
 unfolding requested call
 returns-2 c =
     let told = c .before .before .before .before .before .before in
-    rw (told .enum-told2 .given .1, ← told .before .before .task-of .ensures) (c .before .start .ensures)
+    rw (told .enum-told2 .given .1, ← told .before .before .before .task-of .ensures) (c .before .start .ensures)
 
 returns-3 : tie.Need-returns-3
 unfolding requested call
 returns-3 c =
     let told = c .before .before .before .before .before .before in
-    rw (told .enum-told3 .given .1, ← told .before .before .task-of .ensures) (c .before .commit .ensures)
+    rw (told .enum-told3 .given .1, ← told .before .before .before .task-of .ensures) (c .before .commit .ensures)
 
 returns-4 : tie.Need-returns-4
 unfolding requested call
 returns-4 c =
     let told = c .before .before .before .before .before .before in
-    rw (told .enum-told4 .given .1, ← told .before .before .task-of .ensures) (c .before .abort .ensures)
+    rw (told .enum-told4 .given .1, ← told .before .before .before .task-of .ensures) (c .before .abort .ensures)
 
 returns-5 : tie.Need-returns-5
 unfolding requested call
 returns-5 c =
     let told = c .before .before .before .before .before .before in
-    rw (told .enum-told5 .given .1, ← told .before .before .task-of .ensures) (c .before .wait .ensures)
+    rw (told .enum-told5 .given .1, ← told .before .before .before .task-of .ensures) (c .before .wait .ensures)
 
 returns-6 : tie.Need-returns-6
 unfolding requested call
 returns-6 c =
     let told = c .before .before .before .before .before .before .before .before .before .before in
-    rw (told .enum-told6 .given .1, ← told .before .before .task-of .ensures) (c .before .before .before .before .before .step .ensures)
+    rw (told .enum-told6 .given .1, ← told .before .before .before .task-of .ensures) (c .before .before .before .before .before .step .ensures)
 
 returns-7 : tie.Need-returns-7
 unfolding requested call
 returns-7 c =
-    let told = c .before .before .before .before .before .before .before .before in
-    rw (told .enum-told7 .given .1, ← told .before .before .task-of .ensures, ← c .before .before .before .address-of .ensures) (c .before .before .read .ensures)
+    let told = c .before .before .before .before .before .before .before in
+    rw (told .enum-told7 .given .1, ← told .before .before .before .task-of .ensures, ← told .before .before .address-of .ensures) (c .before .before .read .ensures)
 
 returns-8 : tie.Need-returns-8
 unfolding requested call
 returns-8 c =
-    let told = c .before .before .before .before .before .before .before .before .before in
-    rw (told .enum-told8 .given .1, ← told .before .before .task-of .ensures, ← c .before .before .before .before .address-of2 .ensures, ← c .before .before .before .four-at .ensures) (c .before .before .write .ensures)
+    let told = c .before .before .before .before .before .before .before .before in
+    rw (told .enum-told8 .given .1, ← told .before .before .before .task-of .ensures, ← told .before .before .address-of .ensures, ← c .before .before .before .before .before .before .before .four-at .ensures) (c .before .before .write .ensures)
 
 pub ask-spec : {M : Type 1} → statement M
 ask-spec =
     tie.close
     (tie.spec
+    (λ c κs. search needs)
     (λ c κs. search needs)
     enum-told
     (λ c κs. search needs)
@@ -75,9 +76,7 @@ ask-spec =
     (λ c κs. search needs)
     (λ c. search needs)
     (λ c κs. search needs)
-    (λ c κs. search needs)
     (λ c. search needs)
-    (λ c κs. search needs)
     (λ c κs. search needs)
     (λ c κs. search needs)
     (λ c. search needs)
