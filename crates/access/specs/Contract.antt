@@ -1,4 +1,4 @@
--- What the functions of an access are held to, in the terms of document 01's definitions.
+-- What the functions of an access are held to, in the terms of crate memory's definitions (§6.5 to §6.8).
 use Prim.Native.Nat.{ℕ, _%_, _<_}
 use mathlib.Core.Path.{_≡_}
 use mathlib.Core.Bool.{Bool, true, false, not}

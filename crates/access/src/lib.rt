@@ -61,7 +61,7 @@ fn entry_beside(
     found_at(run, count, at)
 }
 
-// Overtaken: the logical version of a new address differs from the old version of the task's entries on the record.
+// §6.7: whether the task was overtaken at a new address.
 fn is_overtaken(version: u32, beside: Found) -> bool
     ensures { λ r. ⌜ r ≡ overtakenBy version beside ⌝ }
 {
@@ -74,7 +74,7 @@ fn is_overtaken(version: u32, beside: Found) -> bool
     }
 }
 
-// The entry for a new address. Its new version is that of the task's other entries on the record, or the old version.
+// §6.8: the entry for a new address.
 fn fresh(address: u32, seen: Seen, beside: Found) -> Entry
     ensures { λ r. ⌜ r ≡ freshBeside address seen beside ⌝ }
 {
@@ -100,7 +100,7 @@ fn fresh(address: u32, seen: Seen, beside: Found) -> Entry
 pub enum Access {
     // with this number, and nothing is done
     Refused(u32),
-    // the transaction ends as by Abort
+    // with 9, and the transaction is over
     Overtaken,
     // the number of the task's entries, and the one for the address
     Known(usize, Entry),
@@ -135,7 +135,7 @@ fn new_address(
     Access::New(count, fresh(address as u32, seen, beside))
 }
 
-// Read and Write: 3, 4, 5, then a known address, and for a new one 6, then 9.
+// §6.2 to §6.8: 3, 4, 5, then a known address, and for a new one 6, then 9.
 pub fn addressed(
     sizes: Sizes,
     words: &[u32],

@@ -11,7 +11,7 @@ use Rattle.session.specs.Session as file
 use Rattle.session.specs.declared.Kind.{Kind}
 use Rattle.session.specs.declared.Kind.the-variants.{Open, Start, Commit, Abort, Wait, Step, Read, Write}
 
--- The sizes that a record asks: "words 2 bytes, records 2, tasks 1".
+-- §11.2: the sizes that a BD asks.
 abbrev pub sizesOf : List ℕ → Sizes
 sizesOf b = record { words = file.words b; records = file.records b; tasks = file.tasks b }
 

@@ -9,7 +9,7 @@ use memory::Answer;
 use memory::Sizes;
 use session::Kind;
 
-// The sizes that an opening asks. The number of words has two bytes.
+// §11.2: the sizes that an opening asks.
 pub fn sizes_of(body: &[u8]) -> Sizes
     ensures { λ r. ⌜ (r ≡ spec.sizesOf (now (body .entry))) × (r .words < 65536) ⌝ }
 {

@@ -1,5 +1,5 @@
 // The public calls: each asks first whether the table is sound, and has no `requires`.
-// What it answers and what every lent place holds afterwards is what document 01 says, in one equation.
+// What it answers and what every lent row holds afterwards is what its definition says (§5 to §7), in one equation.
 ghost use mathlib.Core.Path.{_≡_};
 ghost use Rattle.memory.specs.Pieces.{memory};
 ghost use Rattle.memory.specs.Numbers.{replied};
@@ -9,9 +9,9 @@ use memory::Answer;
 use memory::Looked;
 use memory::Sizes;
 
-// 1: the table is unsound.
+// §10.1: the table is unsound.
 const UNSOUND: u32 = 1;
-// 5: the address is not below the number of words.
+// §5.6: there is no such address.
 const NO_ADDRESS: u32 = 5;
 
 fn refused(number: u32) -> Answer
@@ -20,7 +20,7 @@ fn refused(number: u32) -> Answer
     Answer { number, value: 0 }
 }
 
-// Opening: every word becomes 0, every record the first version, every task Idle.
+// §5.1 to §5.4: a board is opened.
 pub fn open_board(
     sizes: Sizes,
     first: u32,
@@ -35,7 +35,7 @@ pub fn open_board(
     opening::open_board(sizes, first, words, records, places, entries)
 }
 
-// Start: Idle to Open, no entries.
+// §6.4: a task begins a transaction.
 pub fn start(
     sizes: Sizes,
     words: &[u32],
@@ -53,7 +53,7 @@ pub fn start(
     phases::start_sound(sizes, words, records, places, entries, task)
 }
 
-// Abort: Open to Idle, entries dropped.
+// §6.13: a task gives its transaction up.
 pub fn abort(
     sizes: Sizes,
     words: &[u32],
@@ -71,7 +71,7 @@ pub fn abort(
     phases::abort_sound(sizes, words, records, places, entries, task)
 }
 
-// Commit: Open to Taking (commit) at 0. No entries is allowed.
+// §6.14: from here on steps take, decide, write and release.
 pub fn commit(
     sizes: Sizes,
     words: &[u32],
@@ -89,7 +89,7 @@ pub fn commit(
     phases::commit_sound(sizes, words, records, places, entries, task)
 }
 
-// Wait: Open to Taking (sleep) at 0.
+// §6.15: from here on steps take and fall asleep.
 pub fn wait(
     sizes: Sizes,
     words: &[u32],
@@ -107,7 +107,7 @@ pub fn wait(
     phases::wait_sound(sizes, words, records, places, entries, task)
 }
 
-// Read: the value that the transaction finds at an address.
+// §6.5 to §6.9: the value that the transaction finds at an address.
 pub fn read(
     sizes: Sizes,
     words: &[u32],
@@ -126,7 +126,7 @@ pub fn read(
     operations::read_sound(sizes, words, records, places, entries, task, address)
 }
 
-// Write: the value that the transaction leaves at an address.
+// §6.5 to §6.12: the value that the transaction would leave at an address.
 pub fn write(
     sizes: Sizes,
     words: &[u32],
@@ -146,7 +146,7 @@ pub fn write(
     operations::write_sound(sizes, words, records, places, entries, task, address, value)
 }
 
-// Step: one step of a task that takes, writes, releases or sleeps.
+// §7: one step of a task that takes, writes, releases or sleeps.
 pub fn step(
     sizes: Sizes,
     words: &mut [u32],
@@ -164,7 +164,7 @@ pub fn step(
     steps::step_sound(sizes, words, records, places, entries, task)
 }
 
-// The look-up: the logical value and version of an address. It changes nothing.
+// §5.5, §5.6: what stands at an address, for anybody.
 pub fn look(
     sizes: Sizes,
     words: &[u32],

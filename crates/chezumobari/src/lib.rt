@@ -9,7 +9,7 @@ use memory::Answer;
 use memory::Looked;
 use memory::Sizes;
 
-// Opening: every word becomes 0, every record the first version, every task Idle.
+// §5.1 to §5.4: a board is opened.
 #[no_mangle]
 pub extern "C" fn chezumobari_open(
     sizes: Sizes,
@@ -25,7 +25,7 @@ pub extern "C" fn chezumobari_open(
     calls::open_board(sizes, first, words, records, places, entries)
 }
 
-// Start: Idle to Open, no entries.
+// §6.4: a task begins a transaction.
 #[no_mangle]
 pub extern "C" fn chezumobari_start(
     sizes: Sizes,
@@ -41,7 +41,7 @@ pub extern "C" fn chezumobari_start(
     calls::start(sizes, words, records, places, entries, task)
 }
 
-// Abort: Open to Idle, entries dropped.
+// §6.13: a task gives its transaction up.
 #[no_mangle]
 pub extern "C" fn chezumobari_abort(
     sizes: Sizes,
@@ -57,7 +57,7 @@ pub extern "C" fn chezumobari_abort(
     calls::abort(sizes, words, records, places, entries, task)
 }
 
-// Commit: Open to Taking (commit) at 0. No entries is allowed.
+// §6.14: from here on steps take, decide, write and release.
 #[no_mangle]
 pub extern "C" fn chezumobari_commit(
     sizes: Sizes,
@@ -73,7 +73,7 @@ pub extern "C" fn chezumobari_commit(
     calls::commit(sizes, words, records, places, entries, task)
 }
 
-// Wait: Open to Taking (sleep) at 0.
+// §6.15: from here on steps take and fall asleep.
 #[no_mangle]
 pub extern "C" fn chezumobari_wait(
     sizes: Sizes,
@@ -89,7 +89,7 @@ pub extern "C" fn chezumobari_wait(
     calls::wait(sizes, words, records, places, entries, task)
 }
 
-// Read: the value that the transaction finds at an address.
+// §6.5 to §6.9: the value that the transaction finds at an address.
 #[no_mangle]
 pub extern "C" fn chezumobari_read(
     sizes: Sizes,
@@ -106,7 +106,7 @@ pub extern "C" fn chezumobari_read(
     calls::read(sizes, words, records, places, entries, task, address)
 }
 
-// Write: the value that the transaction leaves at an address.
+// §6.5 to §6.12: the value that the transaction would leave at an address.
 #[no_mangle]
 pub extern "C" fn chezumobari_write(
     sizes: Sizes,
@@ -124,7 +124,7 @@ pub extern "C" fn chezumobari_write(
     calls::write(sizes, words, records, places, entries, task, address, value)
 }
 
-// Step: one step of a task that takes, writes, releases or sleeps.
+// §7: one step of a task that takes, writes, releases or sleeps.
 #[no_mangle]
 pub extern "C" fn chezumobari_step(
     sizes: Sizes,
@@ -140,7 +140,7 @@ pub extern "C" fn chezumobari_step(
     calls::step(sizes, words, records, places, entries, task)
 }
 
-// The look-up: the logical value and version of an address. It changes nothing.
+// §5.5, §5.6: what stands at an address, for anybody.
 #[no_mangle]
 pub extern "C" fn chezumobari_look(
     sizes: Sizes,

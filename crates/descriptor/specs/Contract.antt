@@ -1,4 +1,4 @@
--- What the functions over a descriptor are held to, in the terms of document 01's definitions.
+-- What the functions over a descriptor are held to, in the terms of crate memory's definitions.
 use Prim.Native.Nat.{ℕ, zero, suc, _+_, _<_, _≤_}
 use mathlib.Core.Path.{_≡_}
 use mathlib.Core.Bool.{Bool, true}
@@ -15,7 +15,7 @@ use Rattle.descriptor.specs.declared.Needs.the-variants.{Idle, Open}
 use Rattle.descriptor.specs.declared.Permit.{Permit}
 use Rattle.descriptor.specs.declared.Permit.the-variants.{Refused, Granted}
 
--- "Start needs Idle. Read, Write, Abort, Commit and Wait need Open."
+-- §6.3: the phase that a request asks for.
 abbrev pub allowedBy : Needs → Phase → Bool
 allowedBy Idle p = isIdle p
 allowedBy Open p = isOpen p

@@ -36,7 +36,7 @@ fn allows(needs: Needs, phase: Phase) -> bool
     }
 }
 
-// Whether a task may ask: 3 if there is no such task, 4 if its phase does not allow it.
+// §6.2: whether a task may ask, or which of 3 and 4 refuses it.
 pub fn asked(sizes: Sizes, places: &[[u32; 3]], task: usize, needs: Needs) -> Permit
     requires { ⌜ length (now places) ≡ sizes .tasks ⌝ }
     ensures { λ r. ⌜ ((ws : List ℕ) (rs : List ℕ) (es : List (List ℕ)) → sound sizes (memory ws rs (now (places .entry)) es) ≡ true → Permits sizes (memory ws rs (now (places .entry)) es) task (allowedBy needs) r) ⌝ }
@@ -62,7 +62,7 @@ pub fn put_place(places: &mut [[u32; 3]], task: usize, place: Place)
     places[task] = row;
 }
 
-// Where a task's run begins in the entry table.
+// §3.7: where a task's run begins in the table of entries.
 pub fn run_start(sizes: Sizes, task: usize) -> usize
     requires { ⌜ task < mostTasks ⌝ }
     ensures { λ r. ⌜ r ≡ runStart sizes task ⌝ }
@@ -94,7 +94,7 @@ fn pick(test: bool, this: u32, other: u32) -> u32
     if test { this } else { other }
 }
 
-// An entry after a Write of a value at an address: its own value, and the version of every entry on the record.
+// §6.11: an entry after a Write of a value at an address.
 fn written(entry: Entry, records: u32, address: u32, value: u32) -> Entry
     requires { ⌜ (0 < records) × (entry .old .version ≤ topVersion) ⌝ }
     ensures { λ r. ⌜ r ≡ spec.written records address value entry ⌝ }

@@ -1,4 +1,4 @@
-// What the second machine keeps, in other terms than document 01's tables: the serial board itself, a value for each address and a
+// What the second machine keeps, in other terms than the tables of §3: the serial board itself, a value for each address and a
 // version for each record, which a transaction changes all at once at its deciding step, so that no word is looked up through
 // an owner. Beside the board each task has its log, an address and a value a line, and three numbers for each record: the version
 // that the task saw there (0: none), whether it wrote there, and whether it holds it. All stand in one slice of numbers, `m`.

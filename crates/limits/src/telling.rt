@@ -32,7 +32,7 @@ pub fn say_part(script: &[u8], from: usize, end: usize) {
     }
 }
 
-// "Effect: none" of 1 to 8, and of 9 that the transaction ends as by Abort: its place changes, and nothing else.
+// §9.4: of 1 to 8 that nothing changed, and of 9 that nothing did but the task's own place.
 fn say_effect(number: u32, changed: Changed) {
     if number < 9 && changed.all == 0 {
         say(b", nothing changed");

@@ -43,7 +43,7 @@ pub fn index_on(run: &[[u32; 5]], n: usize, records: u32, record: u32) -> usize
     on
 }
 
-// Whether a transaction in this phase counts as committed.
+// §2.12: whether a transaction in this phase counts as committed.
 pub fn is_committed(phase: Phase) -> bool
     ensures { λ r. ⌜ r ≡ committed phase ⌝ }
 {
@@ -61,7 +61,7 @@ pub fn is_committed(phase: Phase) -> bool
     }
 }
 
-// What an entry shows: the new value and version if its task is committed, otherwise the old ones.
+// §4.3: what an entry shows, by whether its task counts as committed.
 fn shown(row: [u32; 5], done: bool) -> Seen
     ensures { λ r. ⌜ r ≡ shows done (entryOf row) ⌝ }
 {
@@ -69,8 +69,7 @@ fn shown(row: [u32; 5], done: bool) -> Seen
     if done { entry.new } else { entry.old }
 }
 
-// What an owner with n entries shows at an address on a record that it owns: its entry for the address, or the word itself with the
-// version of its entries on the record.
+// §4.3, §4.4: what an owner with n entries shows at an address on a record that it owns.
 fn owned_at(records: u32, done: bool, run: &[[u32; 5]], n: usize, address: u32, word: u32) -> Seen
     requires { ⌜ (n ≤ length (now run)) × (0 < records) × (indexOn records (address % records) (map entryOf (take n (now run))) < n) ⌝ }
     ensures { λ r. ⌜ r ≡ ownedAt records done (map entryOf (take n (now (run .entry)))) address word ⌝ }
@@ -88,7 +87,7 @@ fn owned_at(records: u32, done: bool, run: &[[u32; 5]], n: usize, address: u32, 
     }
 }
 
-// The logical value and version of an address, on a table known to be sound.
+// §4: the logical value and version of an address, on a table known to be sound.
 pub fn logical(
     sizes: Sizes,
     words: &[u32],

@@ -1,5 +1,5 @@
--- Document 01 as definitions, a file for each of its sections in its order, then what is promised of them. No proof stands here.
--- The proofs of this crate name a definition from here, whichever file has it.
+-- The memory as definitions, a file for each subject in the order of its specification, then what is promised of them; Claims says
+-- which promises there are. No proof stands here. The proofs of this crate name a definition from here, whichever file has it.
 pub mod Pieces
 pub mod Logical
 pub mod Requests
@@ -7,8 +7,25 @@ pub mod Step
 pub mod Numbers
 pub mod Sound
 pub mod Calls
-pub mod Positions
+pub mod Machines
 pub mod History
+pub mod Answers
+pub mod Positions
+pub mod Further
+pub mod Effects
+pub mod Stepping
+pub mod Kept
+pub mod Bounds
+pub mod Order
+pub mod Said
+pub mod Alone
+pub mod Whole
+pub mod Meanings
+pub mod Fixed
+pub mod Wrong
+pub mod Thirteen
+pub mod Slips
+pub mod SlipsRefuted
 pub mod Claims
 unfoldable pub use Pieces.*
 unfoldable pub use Logical.*
@@ -17,6 +34,19 @@ unfoldable pub use Step.*
 unfoldable pub use Numbers.*
 unfoldable pub use Sound.*
 unfoldable pub use Calls.*
-unfoldable pub use Positions.*
+unfoldable pub use Machines.*
 unfoldable pub use History.*
+unfoldable pub use Answers.*
+unfoldable pub use Positions.*
+unfoldable pub use Further.*
+unfoldable pub use Effects.*
+unfoldable pub use Stepping.*
+unfoldable pub use Kept.*
+unfoldable pub use Bounds.*
+unfoldable pub use Order.*
+unfoldable pub use Said.*
+unfoldable pub use Alone.*
+unfoldable pub use Whole.*
+unfoldable pub use Meanings.*
+unfoldable pub use Fixed.*
 unfoldable pub use Claims.*

@@ -1,4 +1,4 @@
-// Opening: every word and every entry place becomes 0, every record the first version, and every task Idle.
+// The opening of a board (§5.1 to §5.4).
 ghost use mathlib.Core.Path.{_≡_};
 ghost use mathlib.Core.List.{[], _∷_};
 ghost use lib.ListN.{length, replicate};
@@ -30,7 +30,7 @@ fn fill_places(places: &mut [[u32; 3]])
     }
 }
 
-// Every entry place becomes 0.
+// Every row of the table of entries becomes five zeros.
 fn fill_entries(entries: &mut [[u32; 5]])
     ensures { λ r. ⌜ now (entries .exit) ≡ replicate (length (now (entries .entry))) (0 ∷ 0 ∷ 0 ∷ 0 ∷ 0 ∷ []) ⌝ }
 {
@@ -41,7 +41,7 @@ fn fill_entries(entries: &mut [[u32; 5]])
     }
 }
 
-// It looks only at the sizes and the first version, which are refused with 2, and at the lent lengths, which are refused with 1.
+// §5.2, §5.3: 2 for sizes and first version, then 1 for the lengths, or all four tables are filled.
 pub fn open_board(
     sizes: Sizes,
     first: u32,

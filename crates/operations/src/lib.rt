@@ -25,7 +25,7 @@ fn new_value(entry: Entry) -> Answer
     }
 }
 
-// Read: the new value of the task's entry for the address, which is added if there is none.
+// §6.9: Read.
 pub fn read_sound(
     sizes: Sizes,
     words: &[u32],
@@ -50,7 +50,7 @@ pub fn read_sound(
     }
 }
 
-// Whether no version follows the old one of an entry.
+// §6.10: whether no version follows the old one of an entry.
 fn at_top(entry: Entry) -> bool
     ensures { λ r. ⌜ r ≡ eqb (entry .old .version) topVersion ⌝ }
 {
@@ -102,7 +102,7 @@ fn write_new(
     phases::without_value(0)
 }
 
-// Write: as Read to get an entry, whose new value is set, and the new version of every entry of the task on the record.
+// §6.10, §6.11: Write, on the entry that the task has for the address or on one that is added.
 pub fn write_sound(
     sizes: Sizes,
     words: &[u32],

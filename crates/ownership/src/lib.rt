@@ -29,7 +29,7 @@ fn wide(x: u32) -> usize
     x as usize
 }
 
-// The record that an address belongs to.
+// §2.2: the record of an address.
 fn record_of(address: u32, sizes: Sizes) -> usize
     requires { ⌜ 0 < sizes .records ⌝ }
     ensures { λ r. ⌜ r ≡ address % sizes .records ⌝ }
@@ -37,7 +37,7 @@ fn record_of(address: u32, sizes: Sizes) -> usize
     wide(address) % sizes.records
 }
 
-// The phase of an owner that another task met: whoever took or slept is ended, any other is untouched.
+// §7.7: the phase of an owner after another task has met it.
 fn met(phase: Phase) -> Phase
     ensures { λ r. ⌜ r ≡ metIn phase ⌝ }
 {
@@ -51,7 +51,7 @@ fn met(phase: Phase) -> Phase
     }
 }
 
-// Another task met the owner of a record: the owner's place is moved on.
+// The owner's place is moved on by a clash.
 fn clash(owner: usize, places: &mut [[u32; 3]])
     requires { ⌜ MayMeet (now places) owner ⌝ }
     ensures { λ r. ⌜ Met owner (now (places .entry)) (now (places .exit)) ⌝ }
@@ -68,7 +68,7 @@ fn clash(owner: usize, places: &mut [[u32; 3]])
     places[owner] = back;
 }
 
-// Taking at i < n: the record of entry i is taken, or was the task's already; otherwise the task fails.
+// §7.4 to §7.7: a step in Taking, on entry i.
 pub fn take(
     goal: Goal,
     i: usize,
@@ -108,7 +108,7 @@ pub fn take(
     }
 }
 
-// Writing at i < n: the word takes entry i's new value.
+// §7.11: a step in Writing, on entry i.
 pub fn write(i: usize, sizes: Sizes, words: &mut [u32], entries: &[[u32; 5]], task: usize) -> Phase
     requires { ⌜ MayWrite sizes (now words) (now entries) task i ⌝ }
     ensures { λ r. ⌜ Wrote i sizes (now (words .entry)) (now (entries .entry)) task r (now (words .exit)) ⌝ }
@@ -121,7 +121,7 @@ pub fn write(i: usize, sizes: Sizes, words: &mut [u32], entries: &[[u32; 5]], ta
     Phase::Writing(next)
 }
 
-// The version that a released record gets: the new one when committed, else the old one.
+// §7.13: the version that a record is given back with.
 fn released(outcome: Outcome, entry: Entry) -> u32
     ensures { λ r. ⌜ r ≡ versionBy outcome entry ⌝ }
 {
@@ -134,7 +134,7 @@ fn released(outcome: Outcome, entry: Entry) -> u32
     }
 }
 
-// Releasing at i < n: if the task still owns the record of entry i, it gets a version again.
+// §7.13: a step in Releasing, on entry i.
 pub fn release(
     outcome: Outcome,
     i: usize,

@@ -1,4 +1,4 @@
-// The parts of a table, each by itself: the sizes, the lent lengths, a task's row, an entry, two entries, what a record holds.
+// The parts of a sound table (§10), each by itself: sizes, lent lengths, a task's row, an entry, two entries, what a record holds.
 ghost use mathlib.Core.Path.{_≡_};
 ghost use mathlib.Core.Bool.{true};
 ghost use Prim.Native.Nat.{_<_, _≤_, _%_};
@@ -7,7 +7,7 @@ ghost use Rattle.memory.specs.Sound.{within, sizesOk, lengthsOk, placeOk, entry
 ghost use Rattle.parts.specs.Parts.{agree, ownsFrom, recordOk};
 use memory::Sizes;
 
-// The numbers of the phases, as a task's row holds them.
+// §3.5: some codes of phases, as a task's row holds them.
 const IDLE: u32 = 0;
 
 const OPEN: u32 = 1;
@@ -25,7 +25,7 @@ pub fn in_range(low: usize, high: usize, n: usize) -> bool
     low <= n && n <= high
 }
 
-// Each size is in its range.
+// §10.2: the sizes.
 pub fn sizes_ok(sizes: Sizes) -> bool
     ensures { λ r. ⌜ r ≡ sizesOk sizes ⌝ }
 {
@@ -34,7 +34,7 @@ pub fn sizes_ok(sizes: Sizes) -> bool
         && in_range(1, memory::MOST_TASKS, sizes.tasks)
 }
 
-// The lent lengths are exactly what the sizes ask.
+// §10.2: the lent lengths.
 pub fn lengths_ok(
     sizes: Sizes,
     words: &[u32],
@@ -51,7 +51,7 @@ pub fn lengths_ok(
         && entries.len() == memory::MOST_ENTRIES * sizes.tasks
 }
 
-// A task's row by itself: its number of entries, its phase and its position.
+// §10.3, §10.4: a task's row by itself.
 pub fn place_ok(sizes: Sizes, row: [u32; 3]) -> bool
     ensures { λ r. ⌜ r ≡ placeOk sizes row (placeOf row) ⌝ }
 {
@@ -76,7 +76,7 @@ pub fn place_ok(sizes: Sizes, row: [u32; 3]) -> bool
     position <= count
 }
 
-// The first entry by which the task may own a record: past them all, where its phase owns none.
+// §10.8: the first entry by which the task may own a record, past them all where its phase owns none.
 pub fn owns_from(sizes: Sizes, row: [u32; 3]) -> usize
     requires { ⌜ placeOk sizes row (placeOf row) ≡ true ⌝ }
     ensures { λ from. ⌜ from ≡ ownsFrom sizes (placeOf row) ⌝ }
@@ -91,7 +91,7 @@ pub fn owns_from(sizes: Sizes, row: [u32; 3]) -> usize
     row[2] as usize
 }
 
-// An entry by itself: its address, and its two versions.
+// §10.5: an entry by itself.
 pub fn entry_ok(sizes: Sizes, entry: [u32; 5]) -> bool
     ensures { λ r. ⌜ r ≡ entryOk sizes (entryOf entry) ⌝ }
 {
@@ -110,7 +110,7 @@ pub fn entry_ok(sizes: Sizes, entry: [u32; 5]) -> bool
     new == old || new == old + 1
 }
 
-// Two entries on one record: they have other addresses and the same versions.
+// §10.6: two entries on one record.
 pub fn agree(entry: [u32; 5], other: [u32; 5]) -> bool
     ensures { λ r. ⌜ r ≡ agree (entryOf entry) (entryOf other) ⌝ }
 {
@@ -125,7 +125,7 @@ pub fn record_of(sizes: Sizes, entry: [u32; 5]) -> usize
     (entry[0] % (sizes.records as u32)) as usize
 }
 
-// What a record holds: a version in range, or an owner that has an entry on the record.
+// §10.7, §10.8: what a record holds, where it is known whether its owner has an entry on it.
 pub fn record_ok(number: u32, owned: bool) -> bool
     ensures { λ r. ⌜ r ≡ recordOk (heldOf number) owned ⌝ }
 {

@@ -32,7 +32,7 @@ fn placed(places: &mut [[u32; 3]], task: usize, place: Place, number: u32) -> An
     Answer { number, value: 0 }
 }
 
-// The transaction ends: Idle, entries dropped.
+// The transaction ends, and its entries are dropped (§3.8).
 pub fn ended(places: &mut [[u32; 3]], task: usize, number: u32) -> Answer
     requires { ⌜ task < length (now places) ⌝ }
     ensures { λ r. ⌜ ((ws : List ℕ) (rs : List ℕ) (es : List (List ℕ)) → replied r (memory ws rs (now (places .exit)) es) ≡ reply number 0 (setPlace (memory ws rs (now (places .entry)) es) task (bare 0 Phase.Idle))) ⌝ }
@@ -44,7 +44,7 @@ pub fn ended(places: &mut [[u32; 3]], task: usize, number: u32) -> Answer
     placed(places, task, idle, number)
 }
 
-// Start: Idle to Open, no entries.
+// §6.4: Start.
 pub fn start_sound(
     sizes: Sizes,
     words: &[u32],
@@ -69,7 +69,7 @@ pub fn start_sound(
     }
 }
 
-// Abort: Open to Idle, entries dropped.
+// §6.13: Abort.
 pub fn abort_sound(
     sizes: Sizes,
     words: &[u32],
@@ -88,7 +88,7 @@ pub fn abort_sound(
     }
 }
 
-// Commit: Open to Taking (commit) at 0. No entries is allowed.
+// §6.14: Commit.
 pub fn commit_sound(
     sizes: Sizes,
     words: &[u32],
@@ -113,7 +113,7 @@ pub fn commit_sound(
     }
 }
 
-// Wait: Open to Taking (sleep) at 0; 7 with no entries.
+// §6.15: Wait, which 7 refuses where there is nothing to sleep on.
 pub fn wait_sound(
     sizes: Sizes,
     words: &[u32],

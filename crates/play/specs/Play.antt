@@ -1,4 +1,4 @@
--- The session player: the text that it prints for the bytes of a session, through the calls of document 01.
+-- §12, the player: the text that it prints for the bytes of a session, by the calls of the memory.
 use Prim.Native.Nat.{ℕ, suc}
 use mathlib.Core.List.{List, [], _∷_, _++_}
 use mathlib.Core.Bool.{Bool, true, false, _||_}
@@ -15,7 +15,7 @@ use Rattle.text.specs.Text.{line}
 use Rattle.asking.specs.Asking.{sizesOf, requested}
 use Rattle.showing.specs.Showing.{wordLines}
 
--- The sizes and the first version that the first record of a session asks: "words 2 bytes, records 2, tasks 1, first version 4".
+-- §12.2: the sizes and the first version that the first record of a session asks.
 unfoldable pub sizesAsked : List ℕ → Sizes
 sizesAsked bytes = sizesOf (file.body Open bytes)
 
@@ -26,7 +26,7 @@ firstAsked bytes = file.firstVersion (file.body Open bytes)
 abbrev pub lent : Sizes → Memory
 lent z = opened z 0
 
--- "It stops after a line with 2, 10, 11, 12 or 14."
+-- §12.5: the numbers after which nothing more is printed.
 abbrev pub stops : ℕ → Bool
 stops n = eqb n 2 || eqb n 10 || eqb n 11 || eqb n 12 || eqb n 14
 
@@ -42,21 +42,21 @@ runs l w m = record { lines = l; whole = w; board = m }
 abbrev pub after : List ℕ → Run → Run
 after l r = runs (l ++ r .lines) (r .whole) (r .board)
 
--- the end of a session: a record that is refused has its line too. No session ends at a record (`splits-to-the-end`): that case is
--- there because a definition answers for every case of its type.
+-- §12.4: a record that is refused has its line too. No session ends at a record (`splits-to-the-end`): that case is there because a
+-- definition answers for every case of its type.
 abbrev pub over : ℕ → Memory → Split → Run
 over i m (Record k) = runs [] true m
 over i m (Refused n) = runs (line i n 0) false m
 over i m End = runs [] true m
 
--- "prints for each record its index from 0, the number, the value"
+-- §12.3: a line for each record
 unfoldable pub run : Sizes → ℕ → ℕ → Memory → List Piece → Split → Run
 run z v i m [] ended = over i m ended
 run z v i m (p ∷ ps) ended =
     let r = requested z v m (p .kind) (p .body) in
     after (line i (r .number) (r .value)) (if stops (r .number) then runs [] false (r .after) else run z v (suc i) (r .after) ps ended)
 
--- "Otherwise it then prints": the lines of the records, and if none of them stopped the player those of the board
+-- §12.6: the lines of the records, and if none of them stopped the player those of the board
 unfoldable pub printed : Sizes → ℕ → Run → List ℕ
 printed z v r = r .lines ++ (if r .whole then wordLines z v (r .board) (z .words) else [])
 

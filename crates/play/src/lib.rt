@@ -1,4 +1,4 @@
-// The run of a session and the text that it prints, into a lent buffer.
+// The run of a session and the text that it prints (§12), into a lent buffer.
 ghost use mathlib.Core.Path.{_≡_};
 ghost use Prim.Native.Nat.{_<_, _≤_};
 ghost use lib.ListN.{length};
@@ -22,7 +22,7 @@ pub struct Ran {
     pub whole: bool,
 }
 
-// It stops after a line with 2, 10, 11, 12 or 14.
+// §12.5: whether nothing is printed after a line with this number.
 fn stops(number: u32) -> bool
     ensures { λ r. ⌜ r ≡ spec.stops number ⌝ }
 {
@@ -36,7 +36,7 @@ fn stops(number: u32) -> bool
     }
 }
 
-// The end of a session at a record that is refused, whose number is printed, or after its last record.
+// §12.4: the end of a session, at a record that is refused or after the last one.
 fn put_end(out: &mut [u8], at: usize, index: u32, end: Split) -> Ran
     requires { ⌜ at < 1000000000 ⌝ }
     ensures { λ r. ⌜ ((m : Memory) → Runs lineRoom (spec.over index m end) (now (out .entry)) at (now (out .exit)) (r .at) (r .whole) m) ⌝ }
@@ -51,7 +51,7 @@ fn put_end(out: &mut [u8], at: usize, index: u32, end: Split) -> Ran
     }
 }
 
-// Runs the records of a session, each read from the part that follows the one before, and puts their lines.
+// §12.2, §12.3: runs the records of a session one after the other, and puts their lines.
 fn run_records(
     session: &[u8],
     sizes: Sizes,

@@ -3,7 +3,7 @@ use libc::STDIN_FILENO;
 use libc::STDOUT_FILENO;
 use play::Played;
 
-// One byte past the longest session, to tell 14.
+// §12.1: one byte past the longest session, to tell 14.
 fn room_for_session() -> [u8; 60001] {
     [0u8; 60001]
 }

@@ -1,4 +1,4 @@
-// A second machine: document 01's requests, step and look-up once more, over structures of its own and with none of the memory's code.
+// A second machine: §5 to §7 once more, over structures of its own and with none of the memory's code.
 // It keeps the serial board itself. It is asked as the memory is, by a call and by how the tables would be lent to it.
 mod machine;
 

@@ -1,2 +1,2 @@
--- The session file of document 01 as definitions, in its order, and what is promised of them.
+-- The session file (§11) as definitions, and what is promised of them.
 pub mod Session

@@ -1,4 +1,4 @@
--- Session file: how a record is split off the bytes that are left, and the whole session as its records.
+-- §11, the session file: how a record is split off the bytes that are left, and the whole session as its records.
 pub use Rattle.session.specs.declared.Kind.{Kind}
 pub use Rattle.session.specs.declared.Kind.the-variants.{Open, Start, Commit, Abort, Wait, Step, Read, Write}
 pub use Rattle.session.specs.declared.Marked.{Marked}
@@ -13,11 +13,11 @@ use lib.ListN.{length, getD, take, drop}
 use lib.Dec.{ltb, eqb}
 use Rattle.memory.specs.Pieces.{if_then_else_}
 
--- "At most 60,000 bytes."
+-- §11.1: the longest session.
 abbrev pub mostBytes : ℕ
 mostBytes = 60000
 
--- "Before each record stands a two-byte ASCII mark": BD, ST, CM, AB, WT, SP, RD, WR.
+-- §11.2: the marks BD, ST, CM, AB, WT, SP, RD and WR.
 abbrev pub mark : Kind → List ℕ
 mark Open = 66 ∷ 68 ∷ []
 mark Start = 83 ∷ 84 ∷ []
@@ -28,7 +28,7 @@ mark Step = 83 ∷ 80 ∷ []
 mark Read = 82 ∷ 68 ∷ []
 mark Write = 87 ∷ 82 ∷ []
 
--- "numbers are little-endian": the first byte counts once, and what follows it 256 times.
+-- §11.2: the first byte of a number counts once, and what follows it 256 times.
 unfoldable pub littleEndian : List ℕ → ℕ
 littleEndian [] = 0
 littleEndian (b ∷ bs) = b + 256 * littleEndian bs
@@ -37,7 +37,7 @@ littleEndian (b ∷ bs) = b + 256 * littleEndian bs
 unfoldable pub numberAt : ℕ → ℕ → List ℕ → ℕ
 numberAt width at bytes = littleEndian (take width (drop at bytes))
 
--- "BD (open): words 2 bytes, records 2, tasks 1, first version 4."
+-- §11.2: the numbers in the body of a BD, by their bytes and where they begin
 abbrev pub words : List ℕ → ℕ
 words b = numberAt 2 0 b
 
@@ -50,7 +50,7 @@ tasks b = numberAt 1 4 b
 abbrev pub firstVersion : List ℕ → ℕ
 firstVersion b = numberAt 4 5 b
 
--- "ST, CM, AB, WT, SP: task 1 byte. RD: task 1, address 2. WR: task 1, address 2, value 4."
+-- §11.2: those in every other body, as far as the mark asks for them
 abbrev pub task : List ℕ → ℕ
 task b = numberAt 1 0 b
 
@@ -74,8 +74,7 @@ bodyLength Write = 7
 abbrev pub recordLength : Kind → ℕ
 recordLength k = 2 + bodyLength k
 
--- "Splitting a record off answers its body as that part of the session's own bytes, and the next record is read from the part that
--- follows."
+-- §11.4: the body of a record, and the bytes that the next one is read from.
 unfoldable pub body : Kind → List ℕ → List ℕ
 body k bytes = take (bodyLength k) (drop 2 bytes)
 
@@ -96,8 +95,7 @@ kindAmong (k ∷ ks) bytes = if begins bytes (mark k) then Known k else kindAmon
 unfoldable pub kindAt : List ℕ → Marked
 kindAt bytes = kindAmong kinds bytes
 
--- "A record that cannot be split off is refused before anything in it is used. Order: 11 one byte left where a mark should stand; 10
--- unknown mark; 12 first record not BD, or a later BD; 11 body cut short."
+-- §11.3, §11.6: a BD stands first and nowhere else. The refusals of a record come in the order 11, 10, 12, 11.
 abbrev pub opens : Kind → Bool
 opens Open = true
 opens Start = false
@@ -121,11 +119,11 @@ abbrev pub marked : Bool → ℕ → Marked → Split
 marked first n Unknown = Refused 10
 marked first n (Known k) = placed first n k
 
--- "Longer than 60,000 bytes is 14 at record 0": what is left at the first record is the whole session.
+-- §11.6: 14 is told at the first record, where the whole session is left.
 abbrev pub tooLong : Bool → ℕ → Bool
 tooLong first n = first && ltb mostBytes n
 
--- "An empty file is 11 at record 0." After at least one record, the end of the file ends the session.
+-- §11.5: with nothing left after a record, the session ends. Before the first one, nothing is too little (11).
 abbrev pub over : Bool → ℕ → Bool
 over first n = not first && eqb n 0
 

@@ -1,12 +1,11 @@
-// A session file, split into its records: the kind of each by its mark, its body as that part of the session's own bytes, and the
-// numbers in a body.
+// A session file (§11), split into its records: the kind of each by its mark, its body, and the numbers in a body.
 ghost use mathlib.Core.Path.{_≡_};
 ghost use Rattle.session.specs.Session as spec;
 
-// At most 60,000 bytes.
+// §11.1: bytes of the longest session.
 pub const MOST_BYTES: usize = 60000;
 
-// Before each record stands a two-byte ASCII mark.
+// §11.2: bytes of a mark, and the marks.
 pub const MARK_LENGTH: usize = 2;
 
 pub const OPEN_MARK: [u8; 2] = [b'B', b'D'];
@@ -25,7 +24,7 @@ pub const READ_MARK: [u8; 2] = [b'R', b'D'];
 
 pub const WRITE_MARK: [u8; 2] = [b'W', b'R'];
 
-// The numbers that refuse a record.
+// §11.6: the numbers that refuse a record.
 pub const UNKNOWN_MARK: u32 = 10;
 
 pub const CUT_SHORT: u32 = 11;
@@ -104,7 +103,7 @@ pub fn kind_at(rest: &[u8]) -> Marked
     Marked::Unknown
 }
 
-// How many bytes a body has.
+// §11.2: how many bytes a body has.
 pub fn body_length(kind: Kind) -> usize
     ensures { λ r. ⌜ r ≡ spec.bodyLength kind ⌝ }
 {
@@ -142,14 +141,14 @@ fn opens(kind: Kind) -> bool
     }
 }
 
-// The first record is no opening, or a later one is.
+// §11.3: whether a record stands where its kind may not.
 fn is_misplaced(first: bool, kind: Kind) -> bool
     ensures { λ r. ⌜ r ≡ spec.misplaced first kind ⌝ }
 {
     if opens(kind) { !first } else { first }
 }
 
-// A record with a known mark, in a rest of so many bytes.
+// §11.6: a record with a known mark, in a rest of so many bytes.
 fn placed(length: usize, first: bool, kind: Kind) -> Split
     ensures { λ r. ⌜ r ≡ spec.placed first length kind ⌝ }
 {
@@ -174,7 +173,7 @@ fn is_over(first: bool, length: usize) -> bool
     if first { false } else { length == 0 }
 }
 
-// Splits a record off what is left of a session. At the first record that is the whole session.
+// §11.5, §11.6: splits a record off what is left of a session. At the first record that is the whole session.
 pub fn split_off(rest: &[u8], first: bool) -> Split
     ensures { λ r. ⌜ r ≡ spec.split first (now (rest .entry)) ⌝ }
 {
@@ -193,7 +192,7 @@ pub fn split_off(rest: &[u8], first: bool) -> Split
     placed(rest.len(), first, kind)
 }
 
-// A record's body as that part of the session's own bytes, beginning after the mark; where the session is cut short, what there is.
+// §11.4: a record's body, a part of the session's bytes from behind the mark on; where the session is cut short, what there is.
 pub fn body(rest: &[u8], kind: Kind) -> &[u8]
     ensures { λ r. ⌜ now r ≡ spec.body kind (now (rest .entry)) ⌝ }
 {

@@ -29,13 +29,26 @@ unfoldable pub linesOf : Sizes → Memory → List ℕ → List ℕ
 linesOf z m [] = []
 linesOf z m (a ∷ rest) = wordLine a (logical z m a .value) (logical z m a .version) ++ linesOf z m rest
 
--- The lines are those of exactly the addresses whose logical value is not 0 or whose logical version is not the first, each with the
--- logical value and version.
+-- ascending, so that no address stands twice
+abbrev pub Ascending : List ℕ → Type 0
+Ascending [] = Unit {0}
+Ascending (a ∷ rest) = ((b : ℕ) → b ∈ rest → a < b) × Ascending rest
+
+-- the addresses below n of which something holds, each once, in their order
 pub record Exactly (p : ℕ → Type 0) (n : ℕ) (l : List ℕ) : Type 0 where
   pub only : (a : ℕ) → a ∈ l → (a < n) × p a
   pub all : (a : ℕ) → a < n → p a → a ∈ l
+  pub ascending : Ascending l
 
-pub record ShowsTheBoard (z : Sizes) (v : ℕ) (m : Memory) : Type 0 where
+-- A text shows a board: it is the lines of exactly the changed addresses, ascending, each with the logical value and version.
+pub record Shows (z : Sizes) (v : ℕ) (m : Memory) (text : List ℕ) : Type 0 where
   pub addresses : List ℕ
   pub exactly : Exactly (Changed z v m) (z .words) addresses
-  pub lines : wordLines z v m (z .words) ≡ linesOf z m addresses
+  pub lines : text ≡ linesOf z m addresses
+
+abbrev pub ShowsTheBoard : Sizes → ℕ → Memory → Type 0
+ShowsTheBoard z v m = Shows z v m (wordLines z v m (z .words))
+
+-- there is one such text
+abbrev pub OneText : Type 0
+OneText = (z : Sizes) (v : ℕ) (m : Memory) (k l : List ℕ) → Shows z v m k → Shows z v m l → k ≡ l

@@ -1,4 +1,4 @@
--- The lines of a board: one for each address that is not as it was opened.
+-- §12.6, the lines of a board: one for each address that is not as it was opened.
 use Prim.Native.Nat.{ℕ, zero, suc}
 use mathlib.Core.List.{List, [], _++_}
 use mathlib.Core.Bool.{_&&_}
@@ -8,13 +8,13 @@ use Rattle.memory.specs.Pieces.{if_then_else_, Memory}
 use Rattle.memory.specs.Requests.{look}
 use Rattle.text.specs.Text.{wordLine}
 
--- "'w address value version' for each address whose logical value isn't 0 or whose logical version isn't the first version"
+-- the line of an address, or none if it is as it was opened, by the look-up
 unfoldable pub shown : Sizes → ℕ → Memory → ℕ → List ℕ
 shown z v m a =
     let l = look z m a in
     if eqb (l .value) 0 && eqb (l .version) v then [] else wordLine a (l .value) (l .version)
 
--- "in ascending order": of the addresses below n
+-- those of the addresses below n, ascending
 unfoldable pub wordLines : Sizes → ℕ → Memory → ℕ → List ℕ
 wordLines z v m zero = []
 wordLines z v m (suc n) = wordLines z v m n ++ shown z v m n

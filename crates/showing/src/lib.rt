@@ -1,4 +1,4 @@
-// The lines of a board, into a lent buffer: one for each address that was changed, ascending.
+// The lines of a board (§12.6), into a lent buffer.
 ghost use mathlib.Core.Path.{_≡_};
 ghost use mathlib.Core.Bool.{_&&_};
 ghost use Prim.Native.Nat.{_*_, _<_};
@@ -45,7 +45,7 @@ fn put_word(
     text::put_word_line(out, at, address as u32, seen.value, seen.version)
 }
 
-// Puts the lines of the board, in ascending order of the addresses.
+// Puts the lines of the board, lowest address first.
 pub fn put_board(
     sizes: Sizes,
     first: u32,

@@ -1,4 +1,4 @@
-// The step of a task, on a table known to be sound.
+// The step of a task (§7), on a table known to be sound.
 ghost use mathlib.Core.Path.{_≡_};
 ghost use mathlib.Core.Bool.{true};
 ghost use Rattle.memory.specs.Pieces.{memory};
@@ -32,7 +32,7 @@ fn goes(place: Place, phase: Phase, number: u32) -> Moved
     }
 }
 
-// The outcome's number.
+// §7.14: the number of an outcome.
 fn end_number(outcome: Outcome) -> u32
     ensures { λ r. ⌜ r ≡ endNumber outcome ⌝ }
 {
@@ -43,7 +43,7 @@ fn end_number(outcome: Outcome) -> u32
     }
 }
 
-// At the end of Releasing: Idle, entries dropped, the outcome answered.
+// §7.14: the step that ends a transaction.
 fn end(outcome: Outcome) -> Moved
     ensures { λ r. ⌜ r ≡ endsBy outcome ⌝ }
 {
@@ -54,7 +54,7 @@ fn end(outcome: Outcome) -> Moved
     goes(none, Phase::Idle, end_number(outcome))
 }
 
-// The deciding step.
+// §7.9: the deciding step.
 fn decide(place: Place, goal: Goal) -> Moved
     ensures { λ r. ⌜ Decided place goal r ⌝ }
 {
@@ -110,7 +110,7 @@ fn advance(
     }
 }
 
-// The step, with the place lent: it is moved on, and only the answer is handed back.
+// The step, with the place lent. What is handed back is the answer.
 fn step_place(
     place: &mut Place,
     sizes: Sizes,

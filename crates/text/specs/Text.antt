@@ -27,11 +27,11 @@ space = 32 ∷ []
 abbrev pub newline : List ℕ
 newline = 10 ∷ []
 
--- "its index from 0, the number, the value, with single spaces"
+-- §12.3: the line of a record
 unfoldable pub line : ℕ → ℕ → ℕ → List ℕ
 line index number value = digits index ++ space ++ digits number ++ space ++ digits value ++ newline
 
--- "w address value version"
+-- §12.6: the line of an address
 unfoldable pub wordLine : ℕ → ℕ → ℕ → List ℕ
 wordLine address value version = (119 ∷ []) ++ space ++ line address value version
 

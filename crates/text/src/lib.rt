@@ -27,7 +27,7 @@ pub fn put_number(out: &mut [u8], at: usize, n: u32) -> usize
     put_byte(out, last, (48 + n % 10) as u8)
 }
 
-// Stores the line of a record: its index, the number and the value answered.
+// §12.3: stores the line of a record.
 pub fn put_line(out: &mut [u8], at: usize, index: u32, number: u32, value: u32) -> usize
     requires { ⌜ at < 1500000000 ⌝ }
     ensures { λ r. ⌜ Put 33 (now (out .entry)) at (line index number value) (now (out .exit)) r ⌝ }
@@ -40,7 +40,7 @@ pub fn put_line(out: &mut [u8], at: usize, index: u32, number: u32, value: u32) 
     put_byte(out, e, b'\n')
 }
 
-// Stores the line of an address: the letter w, the address, its value and its version.
+// §12.6: stores the line of an address.
 pub fn put_word_line(out: &mut [u8], at: usize, address: u32, value: u32, version: u32) -> usize
     requires { ⌜ at < 1000000000 ⌝ }
     ensures { λ r. ⌜ Put 35 (now (out .entry)) at (wordLine address value version) (now (out .exit)) r ⌝ }

@@ -1,0 +1,65 @@
+-- How a machine is seen to break a claim: it differs from what the claim says in a number, or answers another number than ours does.
+use Prim.Native.Nat.{ℕ, _%_, _≤_}
+use mathlib.Core.Path.{_≡_, refl, sym, ap, _∙_, subst}
+use mathlib.Core.Logic.{_⊎_, inl, inr}
+use mathlib.Core.List.{List, [], _∷_}
+use mathlib.Core.Bool.{true, false}
+use lib.Dec.{eqb}
+use native.Mathlib.Omega.{arith}
+use borrow.Author.Tests.{eqb-false}
+use Rattle.memory.specs.{Sizes, Commit, Committed, Failed, Woken, Phase, Idle, Open, Taking, Asleep, Releasing, Owner, Place, Memory, kindOf, held, place, entry, sound, openBoard, look, Call, SP, RD, WR, call, Machine, small, phase, Row, Given, refusals, rowsOf, InRange, Fits, CallAnswers, OpeningAnswers, LookAnswers, Meets, Clash, ClashesEnd}
+use Rattle.memory.proofs.Answers.{one-number, numbers-given}
+use Rattle.memory.proofs.OpenAnswers.{opening-answers, look-answers}
+
+-- two things that differ in a number are not one; a place by the kind of its phase
+pub differ : {A : Type 0} (f : A → ℕ) {a b : A} → a ≡ b → eqb (f a) (f b) ≡ false → ⊥
+differ f {a} {b} e d = eqb-false (f a) (f b) d (ap f e)
+
+abbrev pub phaseKind : Place → ℕ
+phaseKind q = kindOf (q .phase)
+
+-- Both numbers are given by the same rows, where the rows do not ask for the memory after or it is alike in what they ask.
+other-number : (M : Machine) (z : Sizes) (m : Memory) (c : Call) → rowsOf z m c (M .call z m c .after) ≡ rowsOf z m c (call z m c .after)
+    → eqb (M .call z m c .number) (call z m c .number) ≡ false → CallAnswers M → ⊥
+other-number M z m c same ne h =
+    eqb-false _ _ ne (one-number (rowsOf z m c (call z m c .after)) _ _ (subst (λ (l : List Row). Given l (M .call z m c .number)) same (h z m c .0)) (numbers-given z m c))
+
+-- of Read and Write they do not ask for it
+pub other-read : (M : Machine) (z : Sizes) (m : Memory) (t a : ℕ) → eqb (M .call z m (RD t a) .number) (call z m (RD t a) .number) ≡ false → CallAnswers M → ⊥
+other-read M z m t a = other-number M z m (RD t a) refl
+
+pub other-write : (M : Machine) (z : Sizes) (m : Memory) (t a v : ℕ) → eqb (M .call z m (WR t a v) .number) (call z m (WR t a v) .number) ≡ false
+    → CallAnswers M → ⊥
+other-write M z m t a v = other-number M z m (WR t a v) refl
+
+-- of a step they ask for the phase
+pub other-step : (M : Machine) (z : Sizes) (m : Memory) (t : ℕ) (p : Phase) → phase (M .call z m (SP t) .after) t ≡ p → phase (call z m (SP t) .after) t ≡ p
+    → eqb (M .call z m (SP t) .number) (call z m (SP t) .number) ≡ false → CallAnswers M → ⊥
+other-step M z m t p e f = other-number M z m (SP t) (ap rows-to (e ∙ sym f))
+  where
+    rows-to : Phase → List Row
+    rows-to q =
+        refusals z m t ((phase m t ≡ Idle) ⊎ (phase m t ≡ Open))
+        ((20, q ≡ Asleep)
+        ∷ (21, phase m t ≡ Releasing Committed (place m t .count))
+        ∷ (22, phase m t ≡ Releasing Failed (place m t .count))
+        ∷ (23, phase m t ≡ Releasing Woken (place m t .count)) ∷ [])
+
+pub other-opening : (M : Machine) (z : Sizes) (v : ℕ) (m : Memory) → eqb (M .openBoard z v m .number) (openBoard z v m .number) ≡ false → OpeningAnswers M → ⊥
+other-opening M z v m ne h =
+    eqb-false _ _ ne (one-number ((2, InRange z v → ⊥) ∷ (1, Fits z m → ⊥) ∷ []) (M .openBoard z v m .number) (openBoard z v m .number) (h z v m .0) (opening-answers z v m .0))
+
+pub other-look : (M : Machine) (z : Sizes) (m : Memory) (a : ℕ) → eqb (M .look z m a .number) (look z m a .number) ≡ false → LookAnswers M → ⊥
+other-look M z m a ne h =
+    eqb-false _ _ ne (one-number ((1, sound z m ≡ false) ∷ (5, z .words ≤ a) ∷ []) (M .look z m a .number) (look z m a .number) (h z m a .0) (look-answers z m a .0))
+
+-- where task 1 comes to a record that task 0 owns, a machine that keeps the claim has them clash
+pub met : (M : Machine) (m : Memory) → sound small m ≡ true → phase m 1 ≡ Taking Commit 0 → place m 1 .count ≡ 1
+    → held m (entry small m 1 0 .address % small .records) ≡ Owner 0 → ClashesEnd M → Clash m 1 0 (M .call small m (SP 1) .after)
+unfolding small
+met M m ok p n own h = go (h small m 1 ok (omega arith) 0 (eqb-false 0 1 refl))
+  where
+    go : (Meets small m 1 0 × Clash m 1 0 (M .call small m (SP 1) .after))
+        ⊎ ((Meets small m 1 0 → ⊥) × (place (M .call small m (SP 1) .after) 0 ≡ place m 0)) → Clash m 1 0 (M .call small m (SP 1) .after)
+    go (inl x) = x .1
+    go (inr x) = absurd (x .0 (Commit, 0, p, omega (arith, n), own, eqb-false 0 1 refl))

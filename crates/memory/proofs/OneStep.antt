@@ -1,0 +1,195 @@
+-- One step of a task, by the phase that it is in: the number, and what it leaves. All is told against a table b from which the task
+-- set out, with the entries that it had there.
+use Prim.Native.Nat.{ℕ, suc, _%_, _<_}
+use mathlib.Core.Path.{_≡_, refl, sym, ap, _∙_, subst}
+use mathlib.Core.Logic.{_⊎_, inl, inr, _≢_, ⊎-elim}
+use mathlib.Core.Bool.{true, false≢true}
+use lib.ListN.{drop}
+use native.Mathlib.Omega.{arith}
+use Rattle.memory.specs.{Sizes, Goal, Commit, Outcome, Committed, Failed, Woken, Phase, Idle, Open, Taking, Writing, Releasing, Place, Held, Version, Owner, Entry, Memory, kindOf, whichOf, positionOf, steps, place, entry, held, bare, moved, sound, endNumber, SP, call, phase, Given, rowsOf, word, Same, ButAt, Left, final, Steps, Meets, Clash}
+use Rattle.memory.proofs.Codes.{not-owner, owner-inj}
+use Rattle.memory.proofs.SoundLasts.{call-sound}
+use Rattle.memory.proofs.Answers.{one-number, numbers-given}
+use Rattle.memory.proofs.StepAnswers.{ending}
+use Rattle.memory.proofs.Stepping.{steps-leave, clashes-end}
+use Rattle.memory.proofs.Runs.{not-refused}
+use Rattle.memory.proofs.Tables.{count-of, phase-of, entry-from, same-all, but-all}
+
+-- a step that neither falls asleep nor ends answers 0
+under-way : (n : ℕ) (p p′ : Phase) → kindOf p′ ≢ 4 → (kindOf p ≡ 6 → positionOf p < n) → Given (ending n p p′) 0
+under-way n p p′ awake before = inr (λ x. awake (ap kindOf x), inr (ends Committed, inr (ends Failed, inr (ends Woken, refl))))
+  where
+    ends : (o : Outcome) → p ≡ Releasing o n → ⊥
+    ends o x = omega (arith, before (ap kindOf x), ap positionOf x)
+
+at-the-end : (n : ℕ) (o : Outcome) → Given (ending n (Releasing o n) Idle) (endNumber o)
+at-the-end n Committed = inr (λ x. omega (arith, ap kindOf x), inl (refl, refl))
+at-the-end n Failed = inr (λ x. omega (arith, ap kindOf x), inr (λ x. omega (arith, ap whichOf x), inl (refl, refl)))
+at-the-end n Woken = inr (λ x. omega (arith, ap kindOf x), inr (λ x. omega (arith, ap whichOf x), inr (λ x. omega (arith, ap whichOf x), inl (refl, refl))))
+
+module _ (z : Sizes) (t : ℕ) (lt : t < z .tasks) (b : Memory) where
+  abbrev n : ℕ
+  n = place b t .count
+
+  abbrev e : ℕ → Entry
+  e i = entry z b t i
+
+  abbrev rec : ℕ → ℕ
+  rec i = e i .address % z .records
+
+  abbrev next : Memory → Memory
+  next m = call z m (SP t) .after
+
+  -- the task is in a place; nobody else's place and no entry has changed since b
+  pub record Stands (m : Memory) (q : Place) : Type 0 where
+    pub ok : sound z m ≡ true
+    pub own : place m t ≡ q
+    pub others : (u : ℕ) → u ≢ t → place m u ≡ place b u
+    pub entries : m .entries ≡ b .entries
+
+  -- a step that answers a number and leads to a place; words and records change in these ways
+  pub record Stepped (m : Memory) (k : ℕ) (q : Place) (Words : (ℕ → ℕ) → (ℕ → ℕ) → Type 0) (Records : (ℕ → Held) → (ℕ → Held) → Type 0) : Type 0 where
+    pub number : call z m (SP t) .number ≡ k
+    pub stands : Stands (next m) q
+    pub words : Words (word m) (word (next m))
+    pub records : Records (held m) (held (next m))
+
+  -- no word has changed since b either, and the records in some way only
+  pub record Since (R : ℕ → Held → Type 0) (m : Memory) (q : Place) : Type 0 where
+    pub standing : Stands m q
+    pub words : Same (word b) (word m)
+    pub records : (r : ℕ) → R r (held m r)
+
+  pub sets-out : {R : ℕ → Held → Type 0} → sound z b ≡ true → (p : Phase) → phase b t ≡ p → ((r : ℕ) → R r (held b r)) → Since R b (bare n p)
+  sets-out ok p q f =
+      record { standing = record { ok = ok; own = ap (moved (place b t)) q; others = λ u ne. refl; entries = refl }; words = λ a. refl; records = f }
+
+  module _ {R : ℕ → Held → Type 0} {m : Memory} {k : ℕ} {q q′ : Place} (L : Since R m q) where
+    pub since-same : Stepped m k q′ Same Same → Since R (next m) q′
+    since-same S = record { standing = S .stands; words = λ a. S .words a ∙ L .words a; records = same-all R (held m) _ (L .records) (S .records) }
+
+    pub since-but : {i : ℕ} {x : Held} → Stepped m k q′ Same (ButAt i x) → R i x → Since R (next m) q′
+    since-but S new = record { standing = S .stands; words = λ a. S .words a ∙ L .words a; records = but-all R (held m) _ (L .records) _ _ (S .records) new }
+
+  module _ (m : Memory) (p : Phase) (S : Stands m (bare n p)) where
+    abbrev m′ : Memory
+    m′ = next m
+
+    in-p : phase m t ≡ p
+    in-p = phase-of (S .own)
+
+    count : place m t .count ≡ n
+    count = count-of (S .own)
+
+    same : (i : ℕ) → entry z m t i ≡ e i
+    same i = entry-from b m z (S .entries) t i
+
+    left : Steps z m t m′ p
+    left = subst (Steps z m t m′) in-p (steps-leave z m t (S .ok) lt)
+
+    -- whom it meets, it meets in Taking, as the owner of this entry's record
+    met : (u : ℕ) → Meets z m t u → (kindOf p ≡ 2) × (positionOf p < n) × (held m (rec (positionOf p)) ≡ Owner u)
+    met u (g, i, x, h, o, ne) =
+        let w : p ≡ Taking g i = sym in-p ∙ x in
+        let at : positionOf p ≡ i = ap positionOf w in (
+          ap kindOf w,
+          omega (arith, at, h, count),
+          ap (λ (j : ℕ). held m (rec j)) at ∙ sym (ap (λ (f : Entry). held m (f .address % z .records)) (same i)) ∙ o,
+        )
+
+    beside : (u : ℕ) → u ≢ t → (Meets z m t u → ⊥) → place m′ u ≡ place m u
+    beside u ne nobody = ⊎-elim (λ x. absurd (nobody (x .0))) (λ x. x .1) (clashes-end z m t (S .ok) lt u ne)
+
+    -- the number, by the phases before and after
+    said : (k : ℕ) (p′ : Phase) → steps p ≡ true → phase m′ t ≡ p′ → Given (ending n p p′) k → call z m (SP t) .number ≡ k
+    said k p′ moves to g =
+        one-number (rowsOf z m (SP t) m′) _ _ (numbers-given z m (SP t))
+        (not-refused z m t (S .ok) lt _ (drop 3 (rowsOf z m (SP t) m′)) k not-still (rw (count, in-p, to) g))
+      where
+        still : {q : Phase} → phase m t ≡ q → steps q ≡ true
+        still x = ap steps (sym x ∙ in-p) ∙ moves
+
+        not-still : (phase m t ≡ Idle) ⊎ (phase m t ≡ Open) → ⊥
+        not-still (inl x) = false≢true (still x)
+        not-still (inr x) = false≢true (still x)
+
+    stepped : {k : ℕ} {q : Place} {Words : (ℕ → ℕ) → (ℕ → ℕ) → Type 0} {Records : (ℕ → Held) → (ℕ → Held) → Type 0}
+        → Left m t m′ q Words Records → steps p ≡ true → Given (ending n p (q .phase)) k → ((u : ℕ) → u ≢ t → Meets z m t u → ⊥)
+        → Stepped m k q Words Records
+    stepped {k = k} {q = q} L moves g nobody =
+        record {
+          number = said k (q .phase) moves (phase-of (L .own)) g;
+          stands = record {
+            ok = call-sound z m (S .ok) (SP t);
+            own = L .own;
+            others = λ u ne. beside u ne (nobody u ne) ∙ S .others u ne;
+            entries = L .entries ∙ S .entries;
+          };
+          words = L .words;
+          records = L .records;
+        }
+
+  -- Taking -----------------------------------------------------------------------------------------------------------------------
+
+  module _ (m : Memory) (g : Goal) (i : ℕ) (S : Stands m (bare n (Taking g i))) (h : i < n) where
+    going : {p′ : Phase} → kindOf p′ ≢ 4 → Given (ending n (Taking g i) p′) 0
+    going {p′ = p′} awake = under-way n (Taking g i) p′ awake (λ d. h)
+
+    pub takes : held m (rec i) ≡ Version (e i .old .version) → Stepped m 0 (bare n (Taking g (suc i))) Same (ButAt (rec i) (Owner t))
+    takes q =
+        stepped m _ S (rw (count m _ S, same m _ S i) at (left m _ S .1) h q) refl (going (λ d. omega (arith, d)))
+        (λ u ne x. not-owner (e i .old .version) u (sym q ∙ met m _ S u x .2))
+
+    pub has : held m (rec i) ≡ Owner t → Stepped m 0 (bare n (Taking g (suc i))) Same Same
+    has q =
+        stepped m _ S (rw (count m _ S, same m _ S i) at (left m _ S .2) h q) refl (going (λ d. omega (arith, d)))
+        (λ u ne x. ne (owner-inj u t (sym (met m _ S u x .2) ∙ q)))
+
+    -- it meets the owner, and nobody else
+    pub meets : (u : ℕ) → u ≢ t → held m (rec i) ≡ Owner u
+        → (call z m (SP t) .number ≡ 0) × Clash m t u (next m) × ((w : ℕ) → w ≢ t → w ≢ u → place (next m) w ≡ place m w)
+    meets u ne q = (
+      said m _ S 0 (Releasing Failed 0) refl (phase-of (clashed .comer)) (going (λ d. omega (arith, d))),
+      clashed,
+      λ w nt nu. beside m _ S w nt (λ x. nu (owner-inj w u (sym (met m _ S w x .2) ∙ q))),
+    )
+      where
+        meeting : Meets z m t u
+        meeting = (g, i, in-p m _ S, omega (arith, h, count m _ S), ap (λ (f : Entry). held m (f .address % z .records)) (same m _ S i) ∙ q, ne)
+
+        clashed : Clash m t u (next m)
+        clashed = ⊎-elim (λ x. x .1) (λ x. absurd (x .0 meeting)) (clashes-end z m t (S .ok) lt u ne)
+
+  pub decides : (m : Memory) → Stands m (bare n (Taking Commit n)) → Stepped m 0 (bare n (Writing 0)) Same Same
+  decides m S =
+      stepped m _ S (rw (count m _ S) at (left m _ S .0) refl) refl (under-way n _ _ (λ d. omega (arith, d)) (λ d. omega arith))
+      (λ u ne x. omega (arith, met m _ S u x .1))
+
+  -- Writing ----------------------------------------------------------------------------------------------------------------------
+
+  pub writes : (m : Memory) (i : ℕ) → Stands m (bare n (Writing i)) → i < n
+      → Stepped m 0 (bare n (Writing (suc i))) (ButAt (e i .address) (e i .new .value)) Same
+  writes m i S h =
+      stepped m _ S (rw (count m _ S, same m _ S i) at (left m _ S .1) h) refl (under-way n _ _ (λ d. omega (arith, d)) (λ d. h))
+      (λ u ne x. omega (arith, met m _ S u x .0))
+
+  pub wrote-all : (m : Memory) → Stands m (bare n (Writing n)) → Stepped m 0 (bare n (Releasing Committed 0)) Same Same
+  wrote-all m S =
+      stepped m _ S (rw (count m _ S) at (left m _ S .0) refl) refl (under-way n _ _ (λ d. omega (arith, d)) (λ d. omega arith))
+      (λ u ne x. omega (arith, met m _ S u x .0))
+
+  -- Releasing --------------------------------------------------------------------------------------------------------------------
+
+  module _ (m : Memory) (o : Outcome) (i : ℕ) (S : Stands m (bare n (Releasing o i))) (h : i < n) where
+    pub frees : held m (rec i) ≡ Owner t → Stepped m 0 (bare n (Releasing o (suc i))) Same (ButAt (rec i) (Version (final o (e i))))
+    frees q =
+        stepped m _ S (rw (count m _ S, same m _ S i) at (left m _ S .1) h q) refl (under-way n _ _ (λ d. omega (arith, d)) (λ d. h))
+        (λ u ne x. omega (arith, met m _ S u x .0))
+
+    pub passes : held m (rec i) ≢ Owner t → Stepped m 0 (bare n (Releasing o (suc i))) Same Same
+    passes q =
+        stepped m _ S (rw (count m _ S, same m _ S i) at (left m _ S .2) h q) refl (under-way n _ _ (λ d. omega (arith, d)) (λ d. h))
+        (λ u ne x. omega (arith, met m _ S u x .0))
+
+  pub ends : (m : Memory) (o : Outcome) → Stands m (bare n (Releasing o n)) → Stepped m (endNumber o) (bare 0 Idle) Same Same
+  ends m o S = stepped m _ S (rw (count m _ S) at (left m _ S .0) refl) refl (at-the-end n o) (λ u ne x. omega (arith, met m _ S u x .0))

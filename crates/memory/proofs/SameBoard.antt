@@ -1,0 +1,150 @@
+-- After a try that failed and the woken one's end every address has the logical value and version that it had, if the board was plain.
+-- A reached board is plain where it is calm.
+use Prim.Native.Nat.{ℕ, _%_, _<_}
+use mathlib.Core.Path.{_≡_, refl, sym, ap, _∙_}
+use mathlib.Core.Logic.{_⊎_, inl, inr, _≢_, ⊎-elim}
+use mathlib.Core.List.{List}
+use mathlib.Core.Bool.{true, false}
+use lib.ListN.{getD}
+use lib.Seq.{ext-getD}
+use native.Mathlib.Omega.{arith}
+use native.Mathlib.Nat.{mod-lt}
+use Rattle.memory.specs.{Sizes, Phase, Idle, Asleep, Writing, Place, Held, Version, Owner, Seen, Entry, Memory, kindOf, steps, committed, place, entry, entries, limit, held, blank, ownedAt, logical, logicalAt, shown, sound, _∈_, phase, KeepsOthers, Use, Calm, Wakes, Rises, Plain, CalmIsPlain, Scene, ours}
+use Rattle.memory.proofs.Find.{find?}
+use Rattle.memory.proofs.Stores.{run-at}
+use Rattle.memory.proofs.Facts.{some-record, entries-count, count-most, owner-task}
+use Rattle.memory.proofs.Answers.{agreed}
+use Rattle.memory.proofs.Meanings.{logical-means}
+use Rattle.memory.proofs.Invariant.{Pending}
+use Rattle.memory.proofs.Look.{clean}
+use Rattle.memory.proofs.View.{view}
+use Rattle.memory.proofs.Good.{logical-right}
+use Rattle.memory.proofs.Serial.{Fine, always}
+use Rattle.memory.proofs.Tables.{is-owner?, count-of, owns-none, held-from, entry-from, keeps-place}
+use Rattle.memory.proofs.WholeTurns.{Woke}
+
+-- a reached board on which nobody writes has its logical values in its words
+fine-plain : (s : Scene) → Fine s → Calm (s .sizes) (s .memory) → Plain (s .sizes) (s .memory)
+unfolding view
+fine-plain s f calm a = logical-right z (s .first) m (s .notes) (f .1) a .0 ∙ sym (clean (z .records) _ _ (view z m (s .notes .logs)) (f .1 .1) a none)
+  where
+    z : Sizes
+    z = s .sizes
+
+    m : Memory
+    m = s .memory
+
+    none : (t : ℕ) → held m (a % z .records) ≡ Owner t → Pending (z .records) (view z m (s .notes .logs) .task t) a → ⊥
+    none t o p = go (calm t (owner-task z m (f .0) (a % z .records) t (mod-lt a (some-record z m (f .0))) o))
+      where
+        writes : phase m t ≡ Writing (p .at)
+        writes = p .phase
+
+        go : (phase m t ≡ Idle) ⊎ (phase m t ≡ Asleep) → ⊥
+        go (inl e) = let k : _≡_ {A = ℕ} 0 5 = ap kindOf (sym e ∙ writes) in omega (arith, k)
+        go (inr e) = let k : _≡_ {A = ℕ} 4 5 = ap kindOf (sym e ∙ writes) in omega (arith, k)
+
+pub calm-is-plain : CalmIsPlain
+calm-is-plain = always (λ s. Calm (s .sizes) (s .memory) → Plain (s .sizes) (s .memory)) fine-plain
+
+-- The logical value and version depend on words, records, and owners -----------------------------------------------------------------------
+
+entries-same : (z : Sizes) (m m′ : Memory) → sound z m ≡ true → sound z m′ ≡ true → (w : ℕ) → w < z .tasks → place m′ w ≡ place m w
+    → ((j : ℕ) → j < limit z → entry z m′ w j ≡ entry z m w j) → entries z m′ w ≡ entries z m w
+entries-same z m m′ ok ok′ w h p f =
+    ext-getD blank (entries z m′ w) (entries z m w) (entries-count z m′ ok′ w h ∙ count ∙ sym (entries-count z m ok w h))
+    (λ i d. let k : i < place m w .count = omega (arith, d, entries-count z m′ ok′ w h, count) in
+    run-at z m′ w (place m′ w .count) i (omega (arith, k, count)) ∙ f i (omega (arith, k, count-most z m ok w h)) ∙ sym (run-at z m w (place m w .count) i k))
+  where
+    count : place m′ w .count ≡ place m w .count
+    count = count-of p
+
+logical-same : (z : Sizes) (m m′ : Memory) (a : ℕ) → m′ .words ≡ m .words → held m′ (a % z .records) ≡ held m (a % z .records)
+    → ((w : ℕ) → held m (a % z .records) ≡ Owner w → (place m′ w ≡ place m w) × (entries z m′ w ≡ entries z m w)) → logical z m′ a ≡ logical z m a
+unfolding logical logicalAt
+logical-same z m m′ a words same owner = ap (logicalAt z m′ a) same ∙ go (held m (a % z .records)) refl
+  where
+    go : (h : Held) → held m (a % z .records) ≡ h → logicalAt z m′ a h ≡ logicalAt z m a h
+    go (Version v) q = ap (λ (l : List ℕ). record { value = getD l a 0; version = v }) words
+    go (Owner w) q =
+        let o = owner w q in
+        ap (λ (p : Place). ownedAt (z .records) (committed (p .phase)) (entries z m′ w) a (getD (m′ .words) a 0)) (o .0)
+        ∙ ap (λ (l : List Entry). ownedAt (z .records) (committed (phase m w)) l a (getD (m′ .words) a 0)) (o .1)
+        ∙ ap (λ (l : List ℕ). ownedAt (z .records) (committed (phase m w)) (entries z m w) a (getD l a 0)) words
+
+-- a task that owns nothing, and changes nothing but its own
+pub logical-kept : (z : Sizes) (m m′ : Memory) (t : ℕ) → sound z m ≡ true → sound z m′ ≡ true → steps (phase m t) ≡ false → KeepsOthers z m t m′
+    → (a : ℕ) → logical z m′ a ≡ logical z m a
+logical-kept z m m′ t ok ok′ s K a =
+    logical-same z m m′ a (K .words) (held-from m m′ (K .records) _) (λ w q.
+    let h : w < z .tasks = owner-task z m ok (a % z .records) w (mod-lt a (some-record z m ok)) q in
+    let ne : w ≢ t = λ e. owns-none z m ok w (ap (λ (x : ℕ). steps (phase m x)) e ∙ s) (a % z .records) (mod-lt a (some-record z m ok)) q in
+    let p = keeps-place z m m′ t K w ne in
+    (p, entries-same z m m′ ok ok′ w h p (λ j d. K .runs w j ne d)))
+
+-- A try that failed, and the woken one's end -------------------------------------------------------------------------------------------------
+
+module _ (z : Sizes) (m : Memory) (t : ℕ) (ok : sound z m ≡ true) (idle : phase m t ≡ Idle) (us : List Use) (woke : Woke z m t us) where
+  abbrev u : ℕ
+  u = woke .u
+
+  abbrev m₁ : Memory
+  m₁ = woke .m₁
+
+  abbrev m₂ : Memory
+  m₂ = woke .m₂
+
+  abbrev W : Wakes ours z m t us u m₁
+  W = woke .wakes
+
+  abbrev R : Rises ours z m₁ u m₂
+  R = woke .rises
+
+  words : m₂ .words ≡ m .words
+  words = R .words ∙ W .words
+
+  module _ (a : ℕ) where
+    abbrev r : ℕ
+    r = a % z .records
+
+    low : r < z .records
+    low = mod-lt a (some-record z m ok)
+
+    by-others : held m r ≢ Owner u → logical z m₂ a ≡ logical z m a
+    by-others n =
+        logical-same z m m₂ a words (woke .kept r low n) (λ w q.
+        let not-t : w ≢ t = λ e. owns-none z m ok w (ap (λ (x : ℕ). steps (phase m x)) e ∙ ap steps idle) r low q in
+        let p : place m₂ w ≡ place m w = woke .others w (λ e. n (q ∙ ap Owner e)) in
+        (p, entries-same z m m₂ ok (woke .ok) w (owner-task z m ok r w low q) p (λ j d. entry-from m₁ m₂ z (R .entries-same) w j ∙ W .runs w j not-t d)))
+
+    module _ (owned : held m r ≡ Owner u) where
+      x : (f : Entry) × f ∈ entries z m u × (f .address % z .records ≡ r) × (held m₂ r ≡ Version (f .old .version))
+      x = woke .freed r low owned
+
+      abbrev f : Entry
+      f = x .0
+
+      then-is : logical z m₂ a ≡ record { value = getD (m .words) a 0; version = f .old .version }
+      then-is =
+          logical-means z m₂ (woke .ok) a .free (f .old .version) (x .3)
+          ∙ ap (λ (l : List ℕ). record { value = getD l a 0; version = f .old .version }) words
+
+      was-version : logical z m a .version ≡ f .old .version
+      was-version =
+          ⊎-elim (λ k.
+          ap (λ (s : Seen). s .version) (logical-means z m ok a .known u owned (k .0) (k .1) (k .2) ∙ ap (λ (p : Phase). shown p (k .0)) (W .slept))
+          ∙ agreed z m u a ok (owner-task z m ok r u low owned) (k .0) f (k .1) (x .1) (ap (λ (b : ℕ). b % z .records) (k .2) ∙ sym (x .2)))
+          (λ new.
+          ap (λ (s : Seen). s .version) (logical-means z m ok a .beside u owned new f (x .1) (x .2)) ∙ ap (λ (p : Phase). shown p f .version) (W .slept))
+          (find? a (entries z m u))
+
+      by-woken : logical z m a .value ≡ getD (m .words) a 0 → logical z m₂ a ≡ logical z m a
+      by-woken p =
+          then-is ∙ ap (λ (v : ℕ). record { value = getD (m .words) a 0; version = v }) (sym was-version)
+          ∙ ap (λ (v : ℕ). record { value = v; version = logical z m a .version }) (sym p)
+
+    pub same-board : logical z m a .value ≡ getD (m .words) a 0 → logical z m₂ a ≡ logical z m a
+    same-board p = ⊎-elim (λ q. by-woken q p) by-others (is-owner? (held m r) u)
+
+  pub still-plain : Plain z m → Plain z m₂
+  still-plain p a = ap (λ (s : Seen). s .value) (same-board a (p a)) ∙ p a ∙ ap (λ (l : List ℕ). getD l a 0) (sym words)
