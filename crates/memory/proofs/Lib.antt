@@ -17,7 +17,7 @@ pub mod SoundSteps
 pub mod SoundReads
 pub mod SoundLasts
 pub mod Narrow
--- demand 3: the invariant, the calls that keep it, and what it says of a scene
+-- the third demand: the invariant, the calls that keep it, and what it says of a scene
 pub mod Invariant
 pub mod Quiet
 pub mod Logs

@@ -1,5 +1,5 @@
--- Which number is answered, and with which value: of each call its numbers in their order, each with the condition under which it is
--- given. The conditions speak of the table, not of what a call does.
+-- §9: which number is answered, and with which value. Of each call its numbers in their order, each with the condition under which it
+-- is given. The conditions speak of the table, not of what a call does.
 use Prim.Native.Nat.{ℕ, _*_, _%_, _≤_}
 use mathlib.Core.Path.{_≡_}
 use mathlib.Core.Logic.{_⊎_, _≢_}
@@ -19,7 +19,7 @@ use Rattle.memory.specs.History.{_∈_}
 abbrev pub Row : Type 1
 Row = ℕ × Type 0
 
--- the number of the first row whose condition holds; 0 where none does
+-- §9.2: the number of the first row whose condition holds; 0 where none does
 abbrev pub Given : List Row → ℕ → Type 0
 Given [] n = n ≡ 0
 Given (r ∷ rows) n = (r .1 × (n ≡ r .0)) ⊎ ((r .1 → ⊥) × Given rows n)
@@ -42,11 +42,11 @@ module _ (z : Sizes) (m : Memory) (t a : ℕ) where
   abbrev pub OnRecord : (ℕ → Type 0) → Type 0
   OnRecord P = (e : Entry) × e ∈ entries z m t × (e .address % z .records ≡ a % z .records) × P (e .old .version)
 
-  -- the record was read at one version and has another by now
+  -- §6.7: the record was read at one version and has another by now
   abbrev pub Overtaken : Type 0
   Overtaken = New × OnRecord (λ v. logical z m a .version ≢ v)
 
-  -- the version from which a Write counts: that of the task's entries on the record, else the logical one
+  -- §6.10: the version from which a Write counts: that of the task's entries on the record, else the logical one
   abbrev pub OldVersion : ℕ → Type 0
   OldVersion v = OnRecord (λ w. w ≡ v) ⊎ ((OnRecord (λ w. Unit {0}) → ⊥) × (logical z m a .version ≡ v))
 
@@ -79,7 +79,7 @@ rowsOf z m (SP t) m′ =
 
 -- The value --------------------------------------------------------------------------------------------------------------------
 
--- only a Read that answers 0 has one: what the task wrote or read there before, else what everybody sees
+-- §6.1, §6.9: only a Read that answers 0 has one: what the task wrote or read there before, else what everybody sees
 abbrev pub Valued : Sizes → Memory → Call → Reply → Type 0
 Valued z m (ST t) r = r .value ≡ 0
 Valued z m (CM t) r = r .value ≡ 0
@@ -109,12 +109,12 @@ Fits z m =
     (length (m .words) ≡ z .words) × (length (m .records) ≡ z .records) × (length (m .places) ≡ z .tasks)
     × (length (m .entries) ≡ limit z * z .tasks)
 
--- 2 before 1, whatever the lent places hold
+-- §5.2: 2 before 1, whatever the lent places hold
 abbrev pub OpeningAnswers : Machine → Type 0
 OpeningAnswers M = (z : Sizes) (v : ℕ) (m : Memory)
     → let r = M .openBoard z v m in Given ((2, InRange z v → ⊥) ∷ (1, Fits z m → ⊥) ∷ []) (r .number) × (r .value ≡ 0)
 
--- 1 before 5; with both, value and version are 0
+-- §5.6: 1 before 5; with both, value and version are 0
 abbrev pub LookAnswers : Machine → Type 0
 LookAnswers M = (z : Sizes) (m : Memory) (a : ℕ)
     → let r = M .look z m a in

@@ -1,4 +1,4 @@
--- How long a commit takes, counted in steps of its own task, whatever other tasks call in between.
+-- §8: how long a commit takes, counted in steps of its own task, whatever other tasks call in between.
 use Prim.Native.Nat.{ℕ, _+_, _*_, _<_, _≤_}
 use mathlib.Core.Path.{_≡_}
 use mathlib.Core.Logic.{_⊎_}

@@ -40,12 +40,12 @@ pub record EveryClaim : Type 1 where
   -- It ends in any case, within so many steps of its own (Bounds).
   pub a-commit-ends : CommitEnds
   pub a-commit-is-exact : CommitIsExact
-  -- Demand 3: the memory is the list, played one at a time (Order).
+  -- The third demand: the memory is the list, played one at a time (Order).
   pub runs-are-serial : RunsAreSerial
   pub looks-are-serial : LooksAreSerial
   pub committed-is-listed : CommittedIsListed listed
   pub reached-is-sound : ReachedIsSound
-  -- Demands 1 and 2: thirteen claims (Answers, Effects, Stepping, Kept) fix the machine, and each is needed (Fixed, Thirteen). Slips
+  -- The first and the second: thirteen claims (Answers, Effects, Stepping, Kept) fix the machine, and each is needed (Fixed, Thirteen). Slips
   -- break them or another claim (Slips, SlipsRefuted).
   pub ours-is-promised : Promised ours
   pub one-machine : OneMachine

@@ -1,4 +1,4 @@
--- What a request and an opening leave where they are not refused: in the task's own place and entries, and in the rows that hold them.
+-- §6, §5.3: what a request and an opening leave where they are not refused: in the task's own place and entries, and in the rows that hold them.
 use Prim.Native.Nat.{ℕ, suc, _+_, _*_, _%_, _<_, _≤_}
 use mathlib.Core.Path.{_≡_}
 use mathlib.Core.Logic.{_≢_}
@@ -21,7 +21,7 @@ use Rattle.memory.specs.Answers.{phase, New, OnRecord}
 abbrev pub Goes : Memory → ℕ → Memory → Place → Type 0
 Goes m t m′ q = (place m′ t ≡ q) × (m′ .entries ≡ m .entries)
 
--- An entry for a new address. It begins unchanged; only its new version follows that of the task's other entries on the record.
+-- §6.8: an entry for a new address. It begins unchanged; only its new version follows that of the task's other entries on the record.
 pub record Fresh (z : Sizes) (m : Memory) (t a : ℕ) (e : Entry) : Type 0 where
   pub address : e .address ≡ a
   pub old : e .old ≡ logical z m a
@@ -34,7 +34,7 @@ pub record Entered (z : Sizes) (m : Memory) (t a : ℕ) (es : List Entry) : Type
   pub known : (New z m t a → ⊥) → es ≡ entries z m t
   pub new : New z m t a → (e : Entry) × Fresh z m t a e × (es ≡ entries z m t ++ e ∷ [])
 
--- An entry before and after a Write of v at a: the value goes to this address, a version one higher to its whole record.
+-- §6.11: an entry before and after a Write of v at a: the value goes to this address, a version one higher to its whole record.
 pub record Written (n a v : ℕ) (e f : Entry) : Type 0 where
   pub address : f .address ≡ e .address
   pub old : f .old ≡ e .old
@@ -43,7 +43,7 @@ pub record Written (n a v : ℕ) (e f : Entry) : Type 0 where
   pub version : e .address % n ≡ a % n → f .new .version ≡ suc (e .old .version)
   pub other-version : e .address % n ≢ a % n → f .new .version ≡ e .new .version
 
--- Read and Write that are overtaken end the transaction as Abort does.
+-- §6.4 to §6.15. Read and Write that are overtaken end the transaction as Abort does.
 abbrev pub Leaves : Sizes → Memory → Call → Reply → Type 0
 Leaves z m (ST t) r = r .number ≡ 0 → Goes m t (r .after) (bare 0 Open)
 Leaves z m (CM t) r = r .number ≡ 0 → Goes m t (r .after) (moved (place m t) (Taking Commit 0))
@@ -89,7 +89,7 @@ EntriesStored M = (z : Sizes) (m : Memory) (c : Call) → Stores z m c (M .call 
 
 -- The opening --------------------------------------------------------------------------------------------------------------------
 
--- nothing but zeros, one version in every record, and every task idle
+-- §5.3: nothing but zeros, one version in every record, and every task idle
 pub record Opened (z : Sizes) (v : ℕ) (m : Memory) : Type 0 where
   pub words : m .words ≡ replicate (z .words) 0
   pub records : m .records ≡ replicate (z .records) v

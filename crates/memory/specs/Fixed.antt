@@ -1,4 +1,4 @@
--- The claims that fix the machine: whatever meets them is ours, and none of them follows from the others.
+-- §15.3: the claims that fix the machine: whatever meets them is ours, and none of them follows from the others.
 use mathlib.Core.Path.{_≡_}
 use mathlib.Core.Logic.{_≢_}
 use Rattle.memory.specs.Machines.{Machine}

@@ -1,4 +1,4 @@
--- What a call leaves alone: soundness, everything where it is refused, and otherwise all that is not its own.
+-- §15.2, §6.17, §7.2: what a call leaves alone: soundness, everything where it is refused, and otherwise all that is not its own.
 use Prim.Native.Nat.{ℕ, _<_}
 use mathlib.Core.Path.{_≡_}
 use mathlib.Core.Logic.{_⊎_, _≢_}
@@ -17,7 +17,7 @@ use Rattle.memory.specs.Machines.{Machine}
 abbrev pub SoundLasts : Machine → Type 0
 SoundLasts M = (z : Sizes) (m : Memory) → sound z m ≡ true → (c : Call) → sound z (M .call z m c .after) ≡ true
 
--- the numbers with which nothing changes
+-- §9.4: the numbers with which nothing changes
 abbrev pub refusal : ℕ → Bool
 refusal n = leb 1 n && leb n 8
 

@@ -12,6 +12,7 @@ use Rattle.memory.specs.Answers.{phase, Fits, New}
 
 -- The numbers --------------------------------------------------------------------------------------------------------------------
 
+-- §2, §3.3
 pub record Figures : Type 0 where
   pub words : mostWords ≡ 4096
   pub records : mostRecords ≡ 1024
@@ -22,7 +23,7 @@ pub record Figures : Type 0 where
   pub version : (m : Memory) (r v : ℕ) → v ≤ 2147483647 → getD (m .records) r 0 ≡ v → held m r ≡ Version v
   pub owner : (m : Memory) (r t : ℕ) → getD (m .records) r 0 ≡ 2147483648 + t → held m r ≡ Owner t
 
--- How a place and an entry stand in their rows, which a program lends and may look at. What is stored is read back.
+-- §3.4 to §3.7: how a place and an entry stand in their rows, which a program lends and may look at. What is stored is read back.
 pub record Layout : Type 0 where
   pub idle : (n : ℕ) → rowOf (bare n Idle) ≡ n ∷ 0 ∷ 0 ∷ []
   pub opened : (n : ℕ) → rowOf (bare n Open) ≡ n ∷ 1 ∷ 0 ∷ []
@@ -41,14 +42,14 @@ pub record Layout : Type 0 where
 
 -- A sound table ----------------------------------------------------------------------------------------------------------------
 
--- an entry by itself
+-- §10.5: an entry by itself
 pub record SoundEntry (z : Sizes) (e : Entry) : Type 0 where
   pub address : e .address < z .words
   pub old : (1 ≤ e .old .version) × (e .old .version ≤ topVersion)
   pub new : (1 ≤ e .new .version) × (e .new .version ≤ topVersion)
   pub raised : (e .new .version ≡ e .old .version) ⊎ (e .new .version ≡ suc (e .old .version))
 
--- A task: its row is the encoding of its place, its position is within its entries, and no two entries are for one address or differ
+-- §10.3, §10.4, §10.6. A task: its row is the encoding of its place, its position is within its entries, and no two entries are for one address or differ
 -- in the versions of one record.
 pub record SoundTask (z : Sizes) (m : Memory) (t : ℕ) : Type 0 where
   pub row : (q : Place) × (getD (m .places) t [] ≡ rowOf q)
@@ -62,7 +63,7 @@ pub record SoundTask (z : Sizes) (m : Memory) (t : ℕ) : Type 0 where
   pub agree : (i j : ℕ) → i < j → j < place m t .count → entry z m t i .address % z .records ≡ entry z m t j .address % z .records
       → (entry z m t i .old .version ≡ entry z m t j .old .version) × (entry z m t i .new .version ≡ entry z m t j .new .version)
 
--- an owner of a record: it has an entry there, one that it has yet to release
+-- §10.8: an owner of a record: it has an entry there, one that it has yet to release
 pub record SoundOwner (z : Sizes) (m : Memory) (r t : ℕ) : Type 0 where
   pub task : t < z .tasks
   pub busy : (phase m t ≢ Idle) × (phase m t ≢ Open)
@@ -86,7 +87,7 @@ OneTest = (f g : Sizes → Memory → Bool) → SoundMeans f → SoundMeans g �
 
 -- The logical value and version --------------------------------------------------------------------------------------------------
 
--- what an entry shows to others: the new once its transaction is decided as committed, the old at every other time
+-- §4.3: what an entry shows to others: the new once its transaction is decided as committed, the old at every other time
 abbrev pub shown : Phase → Entry → Seen
 shown Idle e = e .old
 shown Open e = e .old
@@ -97,7 +98,7 @@ shown (Releasing Committed i) e = e .new
 shown (Releasing Failed i) e = e .old
 shown (Releasing Woken i) e = e .old
 
--- the word under a version; what the owner's entry shows; and where the owner has entries on the record but none for the address, the
+-- §4.2 to §4.4: the word under a version; what the owner's entry shows; and where the owner has entries on the record but none for the address, the
 -- word with the version that they show
 pub record LogicalAt (z : Sizes) (m : Memory) (a : ℕ) (s : Seen) : Type 0 where
   pub free : (v : ℕ) → held m (a % z .records) ≡ Version v → s ≡ record { value = getD (m .words) a 0; version = v }

@@ -1,4 +1,4 @@
--- Demand 3: the memory is the list of committed transactions, played one at a time in the order of their deciding steps.
+-- §15.4: the memory is the list of committed transactions, played one at a time in the order of their deciding steps.
 use Prim.Native.Nat.{ℕ, _%_, _<_}
 use mathlib.Core.Path.{_≡_}
 use mathlib.Core.Logic.{_≢_}
@@ -13,7 +13,7 @@ use Rattle.memory.specs.Calls.Call.{SP}
 use Rattle.memory.specs.History.{_∈_, Op, met, board, version, AllFind, zeros, Notes, listed, Event, Scene, asks, reached}
 use Rattle.memory.specs.Answers.{phase}
 
--- of every scene that is reached after an opening that answered 0, whatever is called
+-- §15.1: of every scene, that is, whatever is called after an opening that answered 0
 abbrev pub Always : (Scene → Type 0) → Type 0
 Always P = (z : Sizes) (v : ℕ) (m : Memory) → openBoard z v m .number ≡ 0 → (es : List Event) → P (reached z v m es)
 
@@ -27,7 +27,7 @@ value s a = logical (s .sizes) (s .memory) a .value
 abbrev pub stamp : Scene → ℕ → ℕ
 stamp s a = logical (s .sizes) (s .memory) a .version
 
--- Each listed transaction, at its turn on the board left by those before it, finds what it took. The board that all leave is the
+-- §15.7 to §15.9. Each listed transaction, at its turn on the board left by those before it, finds what it took. The board that all leave is the
 -- logical board. An address's version has gone up once for each of them that wrote to its record. And while a task sleeps, what it
 -- used is as it first saw it, value and version.
 pub record Serial (s : Scene) : Type 0 where
@@ -49,7 +49,7 @@ LooksAreSerial = Always LookedUp
 
 -- Who is in the list -------------------------------------------------------------------------------------------------------------
 
--- Of a way to make a list of a run's notes: a step answers 21 only where the transaction's log is in the list. The deciding step of
+-- §15.6. Of a way to make a list of a run's notes: a step answers 21 only where the transaction's log is in the list. The deciding step of
 -- a commit puts it there, whatever it read or wrote, and no other call changes the list.
 pub record Listed (lists : Notes → List (List Op)) (s : Scene) : Type 0 where
   pub committed : (t : ℕ) → call (s .sizes) (s .memory) (SP t) .number ≡ 21 → s .notes .logs t ∈ lists (s .notes)

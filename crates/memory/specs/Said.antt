@@ -1,4 +1,4 @@
--- In the user's words: what a label said was the board.
+-- §15.10: what a label said was the board.
 use Prim.Native.Nat.{ℕ}
 use mathlib.Core.Path.{_≡_}
 use mathlib.Core.Logic.{_⊎_}

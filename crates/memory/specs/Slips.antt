@@ -1,4 +1,4 @@
--- Slips: more wrong machines, and wrong histories, each ours but for what its line says. SlipsRefuted says which claim each breaks.
+-- §14: slips. More wrong machines, and wrong histories, each ours but for what its line says. SlipsRefuted says which claim each breaks.
 use Prim.Native.Nat.{ℕ, suc, _+_, _*_, _%_}
 use mathlib.Core.Path.{_≡_}
 use mathlib.Core.List.{List, [], _∷_}

@@ -1,4 +1,4 @@
--- What a step leaves, phase by phase: in the task's own place, the words, the records and the entries; and what it makes of others.
+-- §7: what a step leaves, phase by phase: in the task's own place, the words, the records and the entries; and what it makes of others.
 use Prim.Native.Nat.{ℕ, suc, _%_, _<_}
 use mathlib.Core.Path.{_≡_}
 use mathlib.Core.Logic.{_⊎_, _≢_}
@@ -32,12 +32,12 @@ pub record Left (m : Memory) (t : ℕ) (m′ : Memory) (q : Place) (Words : (ℕ
 
 -- What a step leaves -------------------------------------------------------------------------------------------------------------
 
--- with every record taken, a commit writes and a wait sleeps
+-- §7.9: with every record taken, a commit writes and a wait sleeps
 abbrev pub decided : Goal → Phase
 decided Commit = Writing 0
 decided Sleep = Asleep
 
--- the version that a record is given back with
+-- §7.13: the version that a record is given back with
 abbrev pub final : Outcome → Entry → ℕ
 final Committed e = e .new .version
 final Failed e = e .old .version
@@ -54,7 +54,7 @@ module _ (z : Sizes) (m : Memory) (t : ℕ) (m′ : Memory) where
   abbrev pub Holds : ℕ → Held → Place → Type 0
   Holds r h q = Left m t m′ q Same (ButAt r h)
 
-  -- A step of an Idle or Open task is refused: `RefusalsKeep` speaks of it. A record that another task owns is `ClashesEnd`'s.
+  -- §7.4 to §7.14. A step of an Idle or Open task is refused: `RefusalsKeep` speaks of it. A record that another task owns is `ClashesEnd`'s.
   abbrev pub Steps : Phase → Type 0
   Steps Idle = Unit {0}
   Steps Open = Unit {0}
@@ -84,7 +84,7 @@ StepsLeave M = (z : Sizes) (m : Memory) (t : ℕ) → sound z m ≡ true → t <
 
 -- What it makes of others --------------------------------------------------------------------------------------------------------
 
--- an owner that is met: one that takes fails, one that sleeps is woken, any other goes on as if nothing had been
+-- §7.7: an owner that is met: one that takes fails, one that sleeps is woken, any other goes on as if nothing had been
 abbrev pub struck : Phase → Phase
 struck Idle = Idle
 struck Open = Open

@@ -1,4 +1,4 @@
--- Whole turns: the calls of a transaction, with nobody else's between. It comes through, after one try for each sleeper in its way.
+-- §16.4, §16.5, whole turns: the calls of a transaction, with nobody else's between. It comes through, after one try for each sleeper in its way.
 use Prim.Native.Nat.{ℕ, zero, suc, _+_, _*_, _%_, _<_}
 use mathlib.Core.Path.{_≡_}
 use mathlib.Core.Logic.{_⊎_, _≢_}

@@ -124,7 +124,7 @@ put-many {n = n} h fits p q =
       near = omega (arith, digits-word n fits, rw (← digits-many n h) at (both .after));
     }
 
--- the last line of document 01's whole case before its words: "9 21 0"
+-- the last line of the whole case before its words: "9 21 0"
 shown : line 9 21 0 ≡ 57 ∷ 32 ∷ 50 ∷ 49 ∷ 32 ∷ 48 ∷ 10 ∷ []
 unfolding line digits lastDigits
 shown = refl
