@@ -30,7 +30,23 @@ fn begin_trade(board: &mut Board, owner: u32, mortgaged: u32) -> Result<(), Refu
     trade.commit()
 }
 
+/// Looks at the words that the program was started with. It takes none but --help.
+fn look_at_words() {
+    match std::env::args().nth(1).as_deref() {
+        None => {}
+        Some("--help") => {
+            println!("label: a label sleeps on its tile, a trade wakes it, and it speaks the new text. It takes no argument.");
+            std::process::exit(0)
+        }
+        Some(word) => {
+            eprintln!("label: it takes no argument, and {word} was given");
+            std::process::exit(2)
+        }
+    }
+}
+
 fn main() -> Result<(), Refusal> {
+    look_at_words();
     let mut board = Board::open(Sizes { words: 3, records: 3, tasks: 2 }, 1)?;
     // Before the evening: Amina has the tile, mortgaged.
     begin_trade(&mut board, 1, 1)?;

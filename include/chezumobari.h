@@ -7,7 +7,8 @@
  * Every call checks first that the tables are those of a board with the given sizes. Whatever they
  * hold, however long they are and whichever numbers go with the call, a call that is refused answers
  * a number and changes nothing (9 alone also ends the transaction). Only a pointer must be good: it
- * points to as many rows as the length beside it says. Where the length is 0 it may be null.
+ * points to as many rows as the length beside it says, and is aligned as C aligns its type, to 4
+ * bytes. Where the length is 0 it may be null.
  *
  * The tables must not overlap. One call at a time: a program with threads takes its own lock.
  */
@@ -20,6 +21,12 @@
 #ifdef __cplusplus
 extern "C" {
 #endif
+
+/* The version of the library. The archive, the pkg-config file and the CMake target take it from this
+ * line, and a test compares the Rust package's. */
+#define CHEZUMOBARI_VERSION "0.9.0"
+/* The version that the archive was built as: the same text, if header and archive go together. */
+extern const char chezumobari_version[];
 
 /* Limits. Each size is at least 1. */
 #define CHEZUMOBARI_MOST_WORDS 4096

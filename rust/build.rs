@@ -13,7 +13,7 @@ fn main() {
     println!("cargo:rerun-if-changed={}", archive.display());
     if !archive.is_file() {
         panic!(
-            "{} is not there. Run tools/embed once, which builds it, or set CHEZUMOBARI_LIB_DIR to the folder that has libchezumobari.a",
+            "{} is not there. Run tools/archive once, which builds it, or set CHEZUMOBARI_LIB_DIR to the folder that has libchezumobari.a",
             archive.display()
         );
     }
@@ -21,7 +21,7 @@ fn main() {
     println!("cargo:rustc-link-lib=static=chezumobari");
 }
 
-/// The folder that `tools/embed` writes the archive for this processor to.
+/// The folder that `tools/archive` writes the archive for this processor to.
 fn built_here() -> PathBuf {
     let package = PathBuf::from(env::var_os("CARGO_MANIFEST_DIR").expect("cargo sets CARGO_MANIFEST_DIR"));
     let processor = env::var("CARGO_CFG_TARGET_ARCH").expect("cargo sets CARGO_CFG_TARGET_ARCH");

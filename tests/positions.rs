@@ -64,7 +64,7 @@ fn k6_overtaken() {
     board.task(1).start().unwrap();
     board.task(1).read(1).unwrap();
     writes_seven(&mut board);
-    board.task(0).settle().unwrap();
+    assert_eq!(board.task(0).settle(), ended(Outcome::Committed));
     assert_eq!(board.task(1).read(3), Err(Refusal::Overtaken));
     assert_eq!(board.phase(1), Some(Phase::Idle));
 }
@@ -75,7 +75,7 @@ fn k7_a_late_commit_fails() {
     board.task(1).start().unwrap();
     board.task(1).read(1).unwrap();
     writes_seven(&mut board);
-    board.task(0).settle().unwrap();
+    assert_eq!(board.task(0).settle(), ended(Outcome::Committed));
     board.task(1).commit().unwrap();
     assert_eq!(board.task(1).step(), GOING);
     assert_eq!(board.task(1).step(), GOING);

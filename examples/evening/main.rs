@@ -20,7 +20,10 @@ mod wording;
 mod world;
 
 use layout::PLAYERS;
-use std::process::ExitCode;
+use std::io::{ErrorKind, Write};
+use std::path::Path;
+use std::process::{Command, ExitCode};
+use std::time::Instant;
 use turns::{take_turns, Work};
 use world::{Counts, Line, World};
 
@@ -29,12 +32,27 @@ const HELP: &str = "evening: a game with the screen dark, told in words
   --seed N          which evening to play (default 1)
   --evenings N      play N evenings, from the seed on, and print only the counts
   --labels WHICH    sleeping (default) or cached: whose labels the transcript has
-  --speak FILE.wav  have espeak-ng speak the transcript into a file";
+  --speak FILE.wav  have espeak-ng speak the transcript into a file
 
+--labels and --speak are for one evening, so they do not go with --evenings.
+Exit status: 0 played; 1 the evening was not spoken, or not told to its end; 2 an argument is wrong.";
+
+/// What ends the program early.
+enum Stop {
+    /// the words are wrong
+    Usage(String),
+    /// it could not be spoken or told
+    Failed(String),
+    /// nobody listens to standard output any more
+    Unheard,
+}
+
+#[derive(Default)]
 struct Wish {
-    seed: u64,
+    help: bool,
+    seed: Option<u64>,
     evenings: Option<u64>,
-    cached: bool,
+    cached: Option<bool>,
     speak: Option<String>,
 }
 
@@ -99,42 +117,76 @@ fn transcript(evening: &Evening) -> String {
     text
 }
 
-fn one_evening(wish: &Wish) -> Result<(), String> {
-    let (sleeping, cached) = play_both(wish.seed);
-    let told = transcript(if wish.cached { &cached } else { &sleeping });
-    print!("{told}");
-    println!();
-    println!("Evening {}. To hear it again: --seed {}.", wish.seed, wish.seed);
-    println!("{} labels were spoken, and each was the board at its commit.", sleeping.counts.labels);
-    println!(
-        "The same game with labels cached per tile: {} labels, {} of them not the board, {} of these a board that never was.",
-        cached.cache_spoke, cached.cache_wrong, cached.cache_never
-    );
-    println!(
-        "{} transactions committed, {} failed and were tried again, sleepers were woken {} times, and the network sent the money {} times.",
-        sleeping.counts.commits, sleeping.counts.failures, sleeping.counts.wakings, sleeping.counts.snapshots
-    );
+/// Prints a text. A listener who has gone, as the end of a pipe, is no fault.
+fn tell(text: &str) -> Result<(), Stop> {
+    let mut out = std::io::stdout().lock();
+    match out.write_all(text.as_bytes()).and_then(|()| out.flush()) {
+        Ok(()) => Ok(()),
+        Err(e) if e.kind() == ErrorKind::BrokenPipe => Err(Stop::Unheard),
+        Err(e) => Err(Stop::Failed(format!("standard output: {e}"))),
+    }
+}
+
+fn one_evening(wish: &Wish) -> Result<(), Stop> {
+    let seed = wish.seed.unwrap_or(1);
+    let (sleeping, cached) = play_both(seed);
+    let told = transcript(if wish.cached == Some(true) { &cached } else { &sleeping });
+    let counts = sleeping.counts;
+    tell(&format!(
+        "{told}
+Evening {seed}. To hear it again: --seed {seed}.
+{} labels were spoken, and each was the board at its commit.
+The same game with labels cached per tile: {} labels, {} of them not the board, {} of these a board that never was.
+{} transactions committed, {} failed and were tried again, sleepers were woken {} times, and the network sent the money {} times.
+",
+        counts.labels,
+        cached.cache_spoke,
+        cached.cache_wrong,
+        cached.cache_never,
+        counts.commits,
+        counts.failures,
+        counts.wakings,
+        counts.snapshots
+    ))?;
     match &wish.speak {
-        Some(file) => speak(&told, file),
+        Some(file) => speak(&told, file).map_err(|why| Stop::Failed(format!("{file} was not spoken: {why}"))),
         None => Ok(()),
     }
 }
 
+/// Has espeak-ng speak a text. It speaks into a file of its own first: some versions say nothing of a
+/// file that they could not write.
 fn speak(text: &str, file: &str) -> Result<(), String> {
-    let say = std::env::temp_dir().join(format!("evening-{}.txt", std::process::id()));
-    std::fs::write(&say, text).map_err(|e| e.to_string())?;
-    let status = std::process::Command::new("espeak-ng").arg("-w").arg(file).arg("-f").arg(&say).status();
+    let name = |ending: &str| std::env::temp_dir().join(format!("evening-{}.{ending}", std::process::id()));
+    let (say, spoken) = (name("txt"), name("wav"));
+    let result = speak_into(text, &say, &spoken)
+        .and_then(|()| std::fs::copy(&spoken, file).map(|_| ()).map_err(|e| e.to_string()));
     let _ = std::fs::remove_file(&say);
+    let _ = std::fs::remove_file(&spoken);
+    result
+}
+
+fn speak_into(text: &str, say: &Path, spoken: &Path) -> Result<(), String> {
+    std::fs::write(say, text).map_err(|e| e.to_string())?;
+    let status = Command::new("espeak-ng").arg("-w").arg(spoken).arg("-f").arg(say).status();
     match status {
-        Ok(status) if status.success() => Ok(()),
-        Ok(status) => Err(format!("espeak-ng ended with {status}")),
-        Err(e) => Err(format!("espeak-ng could not be run ({e}); the transcript above is complete")),
+        Err(e) => Err(format!("espeak-ng could not be run ({e})")),
+        Ok(status) if !status.success() => Err(format!("espeak-ng ended with {status}")),
+        Ok(_) if std::fs::metadata(spoken).map_or(0, |found| found.len()) == 0 => {
+            Err("espeak-ng wrote nothing".to_string())
+        }
+        Ok(_) => Ok(()),
     }
 }
 
-fn many_evenings(first: u64, evenings: u64) {
+fn many_evenings(first: u64, evenings: u64) -> Result<(), Stop> {
     let (mut labels, mut spoke, mut wrong, mut never, mut calls, mut without) = (0, 0, 0, 0, 0, 0);
+    let mut said = Instant::now();
     for seed in first..first + evenings {
+        if said.elapsed().as_secs() >= 5 {
+            eprintln!("evening: {} of {evenings} evenings are played", seed - first);
+            said = Instant::now();
+        }
         let (sleeping, cached) = play_both(seed);
         labels += sleeping.counts.labels;
         calls += sleeping.counts.calls + cached.counts.calls;
@@ -143,52 +195,64 @@ fn many_evenings(first: u64, evenings: u64) {
         never += cached.cache_never;
         without += u64::from(cached.cache_never == 0);
     }
-    println!("{evenings} evenings, seeds {first} to {}.", first + evenings - 1);
-    println!("{labels} labels were spoken, and each was the board at its commit.");
-    println!("The same games with labels cached per tile: {spoke} labels, {wrong} of them not the board, {never} of these a board that never was.");
-    println!("{without} evenings had no such label.");
-    println!("{calls} calls of the library.");
+    tell(&format!(
+        "{evenings} evenings, seeds {first} to {}.
+{labels} labels were spoken, and each was the board at its commit.
+The same games with labels cached per tile: {spoke} labels, {wrong} of them not the board, {never} of these a board that never was.
+{without} evenings had no such label.
+{calls} calls of the library.
+",
+        first + evenings - 1
+    ))
 }
 
-fn wish() -> Result<Wish, String> {
-    let mut wish = Wish { seed: 1, evenings: None, cached: false, speak: None };
-    let mut words = std::env::args().skip(1);
+/// What the words ask for.
+fn wish(mut words: impl Iterator<Item = String>) -> Result<Wish, String> {
+    let mut wish = Wish::default();
     while let Some(word) = words.next() {
         let mut value = || words.next().ok_or(format!("{word} needs a value"));
-        let number = |text: String| text.parse::<u64>().map_err(|_| format!("{text} is no number"));
+        let number = |text: String| text.parse::<u64>().map_err(|_| format!("{word} takes a number, not {text}"));
         match word.as_str() {
-            "--seed" => wish.seed = number(value()?)?,
-            "--evenings" => match number(value()?)? {
-                0 => return Err("one evening at the least".to_string()),
-                evenings => wish.evenings = Some(evenings),
-            },
+            "--help" | "-h" => wish.help = true,
+            "--seed" => wish.seed = Some(number(value()?)?),
+            "--evenings" => wish.evenings = Some(number(value()?)?),
             "--labels" => {
-                wish.cached = match value()?.as_str() {
+                wish.cached = Some(match value()?.as_str() {
                     "cached" => true,
                     "sleeping" => false,
-                    other => return Err(format!("labels are sleeping or cached, not {other}")),
-                }
+                    other => return Err(format!("--labels takes sleeping or cached, not {other}")),
+                })
             }
             "--speak" => wish.speak = Some(value()?),
-            _ => return Err(HELP.to_string()),
+            _ => return Err(format!("there is no option {word}; --help says which there are")),
         }
     }
-    Ok(wish)
+    match (wish.evenings, &wish.speak, wish.cached) {
+        (Some(0), ..) => Err("--evenings takes 1 or more".to_string()),
+        (Some(_), Some(_), _) => Err("--speak is for one evening, and does not go with --evenings".to_string()),
+        (Some(_), _, Some(_)) => Err("--labels is for one evening, and does not go with --evenings".to_string()),
+        (Some(n), ..) if wish.seed.unwrap_or(1).checked_add(n).is_none() => {
+            Err("there are not so many evenings after this seed".to_string())
+        }
+        _ => Ok(wish),
+    }
+}
+
+fn run() -> Result<(), Stop> {
+    let wish = wish(std::env::args().skip(1)).map_err(Stop::Usage)?;
+    match wish.evenings {
+        _ if wish.help => tell(&format!("{HELP}\n")),
+        Some(evenings) => many_evenings(wish.seed.unwrap_or(1), evenings),
+        None => one_evening(&wish),
+    }
 }
 
 fn main() -> ExitCode {
-    let done = wish().and_then(|wish| match wish.evenings {
-        Some(evenings) => {
-            many_evenings(wish.seed, evenings);
-            Ok(())
-        }
-        None => one_evening(&wish),
-    });
-    match done {
-        Ok(()) => ExitCode::SUCCESS,
-        Err(text) => {
-            eprintln!("{text}");
-            ExitCode::FAILURE
-        }
-    }
+    let (status, text) = match run() {
+        Ok(()) | Err(Stop::Unheard) => return ExitCode::SUCCESS,
+        Err(Stop::Usage(text)) => (2, text),
+        Err(Stop::Failed(text)) => (1, text),
+    };
+    eprintln!("evening: {text}");
+    ExitCode::from(status)
 }

@@ -35,7 +35,8 @@ pub async fn label(world: &World, which: usize, tile: usize) {
             continue;
         };
         if state == said {
-            transaction.sleep().await;
+            // Woken or failed: either way it rests and reads again.
+            let _ = transaction.sleep().await;
             pause.longer().await;
             continue;
         }
@@ -67,7 +68,7 @@ pub async fn until<const N: usize>(
             *word = value;
         }
         if !wanted(words) {
-            transaction.sleep().await;
+            let _ = transaction.sleep().await;
         } else if transaction.commit().await == Outcome::Committed {
             return words;
         }

@@ -20,6 +20,7 @@ pub struct Board {
 }
 
 /// The value and the version at an address.
+#[must_use]
 #[derive(Clone, Copy, Debug, PartialEq, Eq)]
 pub struct Seen {
     pub value: u32,
@@ -50,6 +51,8 @@ impl Board {
 
     /// A board over tables from elsewhere, as a saved game.
     /// Nothing is checked here: each call checks, and answers [`Refusal::Unsound`] if they are unsound.
+    /// Sound tables that no run of calls has left are taken too. What is promised of a board's history
+    /// is promised of a saved one only if it was saved from a board that was opened here.
     pub fn from_tables(sizes: Sizes, tables: Tables) -> Board {
         Board { sizes, tables }
     }
@@ -111,7 +114,29 @@ impl Board {
 /// ```
 ///
 /// What the transaction has read and written stands in the board, so the handle may be dropped at
-/// any time and made again.
+/// any time and made again. Dropping it ends nothing and frees nothing. A task that nobody goes on with
+/// stays where it was:
+/// - Open, it keeps what it read, and stands in nobody's way. [`Task::abort`] ends it.
+/// - On its way to commit, to sleep or to the end, it keeps the records that it has taken, and every
+///   task that comes for one of them fails, until this one has been stepped to its end.
+/// - Asleep, it sleeps on until another task comes for one of its records. Then it is on its way to the
+///   end.
+///
+/// ```
+/// # use chezumobari::{Board, Outcome, Phase, Progress, Sizes};
+/// # let mut board = Board::open(Sizes { words: 2, records: 2, tasks: 2 }, 1)?;
+/// {
+///     let mut handle = board.task(0);
+///     handle.start()?;
+///     handle.write(1, 7)?;
+///     handle.commit()?;
+///     assert_eq!(handle.step()?, Progress::Going);
+/// } // dropped half way
+/// assert_eq!(board.phase(0), Some(Phase::TakingToCommit));
+/// assert_eq!(board.task(0).settle()?, Progress::Ended(Outcome::Committed));
+/// # Ok::<(), chezumobari::Refusal>(())
+/// ```
+#[must_use = "a handle does nothing by itself"]
 #[derive(Debug)]
 pub struct Task<'board> {
     board: &'board mut Board,

@@ -61,6 +61,8 @@ pub use board::{Board, Phase, Seen, Task};
 pub use numbers::{Outcome, Progress, Refusal};
 pub use tables::{Answer, Looked, Sizes, Tables};
 
+/// The version of this package. That of the header and of the archive is the same.
+pub const VERSION: &str = env!("CARGO_PKG_VERSION");
 /// A board has 1 to this many words.
 pub const MOST_WORDS: usize = 4096;
 /// A board has 1 to this many ownership records.

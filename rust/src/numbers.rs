@@ -3,60 +3,74 @@
 use std::error::Error;
 use std::fmt;
 
-/// Why a request was refused. Each case is one of the specification's numbers.
+/// Why a request was refused. Each case but the last is one of the specification's numbers, 1 to 9.
 ///
 /// After every refusal but [`Refusal::Overtaken`] each table holds what it held before.
 #[derive(Clone, Copy, Debug, PartialEq, Eq, Hash)]
-#[repr(u32)]
 pub enum Refusal {
     /// The tables are unsound: their lengths or what they hold.
-    Unsound = 1,
+    Unsound,
     /// Opening with a size or a first version outside its range.
-    OutOfRange = 2,
+    OutOfRange,
     /// The task number is not below the number of tasks.
-    NoSuchTask = 3,
+    NoSuchTask,
     /// The task's phase does not allow the request.
-    WrongPhase = 4,
+    WrongPhase,
     /// The address is not below the number of words.
-    NoSuchAddress = 5,
+    NoSuchAddress,
     /// A new address, and the transaction already has 64.
-    Full = 6,
+    Full,
     /// Wait with no entries: there is nothing to sleep on.
-    NothingToSleepOn = 7,
+    NothingToSleepOn,
     /// Write where the record's version is already the highest.
-    VersionsUsedUp = 8,
+    VersionsUsedUp,
     /// A new address whose record has changed since this transaction first used it.
     /// The transaction has ended, as by an abort.
-    Overtaken = 9,
+    Overtaken,
+    /// A number that this package does not know: the archive that was linked is of another version.
+    Unknown(u32),
 }
+
+/// The refusals that the specification has, in the order of their numbers, which begin at 1.
+const KNOWN: [Refusal; 9] = [
+    Refusal::Unsound,
+    Refusal::OutOfRange,
+    Refusal::NoSuchTask,
+    Refusal::WrongPhase,
+    Refusal::NoSuchAddress,
+    Refusal::Full,
+    Refusal::NothingToSleepOn,
+    Refusal::VersionsUsedUp,
+    Refusal::Overtaken,
+];
 
 impl Refusal {
     /// The specification's number.
     pub fn number(self) -> u32 {
-        self as u32
+        match self {
+            Refusal::Unsound => 1,
+            Refusal::OutOfRange => 2,
+            Refusal::NoSuchTask => 3,
+            Refusal::WrongPhase => 4,
+            Refusal::NoSuchAddress => 5,
+            Refusal::Full => 6,
+            Refusal::NothingToSleepOn => 7,
+            Refusal::VersionsUsedUp => 8,
+            Refusal::Overtaken => 9,
+            Refusal::Unknown(number) => number,
+        }
     }
 
-    /// The refusal with a number, if there is one.
+    /// The refusal with a number, if the specification has one.
     pub fn from_number(number: u32) -> Option<Refusal> {
-        use Refusal::*;
-        let all = [
-            Unsound,
-            OutOfRange,
-            NoSuchTask,
-            WrongPhase,
-            NoSuchAddress,
-            Full,
-            NothingToSleepOn,
-            VersionsUsedUp,
-            Overtaken,
-        ];
-        all.into_iter().find(|refusal| refusal.number() == number)
+        KNOWN.into_iter().find(|refusal| refusal.number() == number)
     }
 }
 
 impl fmt::Display for Refusal {
     fn fmt(&self, f: &mut fmt::Formatter<'_>) -> fmt::Result {
-        f.write_str(match self {
+        let text = match self {
+            Refusal::Unknown(number) => return write!(f, "the library answered {number}, which is not known here"),
             Refusal::Unsound => "the tables are unsound",
             Refusal::OutOfRange => "a size or the first version is out of range",
             Refusal::NoSuchTask => "there is no task with this number",
@@ -66,13 +80,15 @@ impl fmt::Display for Refusal {
             Refusal::NothingToSleepOn => "the transaction has no address to sleep on",
             Refusal::VersionsUsedUp => "the record has the highest version already",
             Refusal::Overtaken => "overtaken: the record has changed, and the transaction has ended",
-        })
+        };
+        f.write_str(text)
     }
 }
 
 impl Error for Refusal {}
 
-/// How a transaction ended.
+/// How a transaction ended. The task is idle again.
+#[must_use = "a transaction that failed or was woken has to be begun again"]
 #[derive(Clone, Copy, Debug, PartialEq, Eq, Hash)]
 #[repr(u32)]
 pub enum Outcome {
@@ -80,11 +96,23 @@ pub enum Outcome {
     Committed = 21,
     /// Nothing was written. Another task was there first: start again.
     Failed = 22,
-    /// The task slept, and another task is about to take one of its records.
+    /// The task slept, and another task has come for one of its records. Read again and compare: that
+    /// task may have failed, so nothing need have changed.
     Woken = 23,
 }
 
+impl fmt::Display for Outcome {
+    fn fmt(&self, f: &mut fmt::Formatter<'_>) -> fmt::Result {
+        f.write_str(match self {
+            Outcome::Committed => "committed",
+            Outcome::Failed => "failed: nothing was written, so begin again",
+            Outcome::Woken => "woken: read again, and compare",
+        })
+    }
+}
+
 /// Where a task is after a step.
+#[must_use = "a step may have ended the transaction, or left the task asleep"]
 #[derive(Clone, Copy, Debug, PartialEq, Eq, Hash)]
 pub enum Progress {
     /// On its way to commit, to sleep or to end.
@@ -116,6 +144,30 @@ pub(crate) fn progress(number: u32) -> Result<Progress, Refusal> {
 }
 
 fn refusal(number: u32) -> Refusal {
-    Refusal::from_number(number)
-        .unwrap_or_else(|| unreachable!("the library answered {number}, which the specification does not have"))
+    Refusal::from_number(number).unwrap_or(Refusal::Unknown(number))
+}
+
+#[cfg(test)]
+mod tests {
+    use super::*;
+
+    #[test]
+    fn a_number_that_is_not_known_is_a_refusal() {
+        for number in [10, 19, 24, u32::MAX] {
+            assert_eq!(done(number), Err(Refusal::Unknown(number)));
+            assert_eq!(progress(number), Err(Refusal::Unknown(number)));
+            assert_eq!(Refusal::Unknown(number).number(), number);
+        }
+        assert_eq!(done(20), Err(Refusal::Unknown(20)));
+        assert_eq!(Refusal::Unknown(24).to_string(), "the library answered 24, which is not known here");
+    }
+
+    #[test]
+    fn outcomes_are_said_in_words() {
+        let said = [Outcome::Committed, Outcome::Failed, Outcome::Woken].map(|outcome| outcome.to_string());
+        assert_eq!(
+            said,
+            ["committed", "failed: nothing was written, so begin again", "woken: read again, and compare"]
+        );
+    }
 }

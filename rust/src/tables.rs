@@ -24,6 +24,7 @@ impl Sizes {
 
 /// What a request answers: one of the specification's numbers, and the value.
 /// The value is 0 except for a read that answers 0 as its number.
+#[must_use = "a request may have been refused"]
 #[derive(Clone, Copy, Debug, PartialEq, Eq)]
 #[repr(C)]
 pub struct Answer {
@@ -32,6 +33,7 @@ pub struct Answer {
 }
 
 /// What a look-up answers: the number, and the logical value and version of the address.
+#[must_use = "a look-up may have been refused"]
 #[derive(Clone, Copy, Debug, PartialEq, Eq)]
 #[repr(C)]
 pub struct Looked {

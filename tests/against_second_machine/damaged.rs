@@ -116,7 +116,8 @@ fn damaged_tables() {
     for _ in 0..15_000 {
         let sizes = Sizes { words: 1 + random.below(6), records: 1 + random.below(4), tasks: 1 + random.below(3) };
         let mut tables = Tables::for_sizes(sizes);
-        tables.open(sizes, random.one_of(&[1, 2, TOP_VERSION - 1, TOP_VERSION]));
+        let first = random.one_of(&[1, 2, TOP_VERSION - 1, TOP_VERSION]);
+        assert_eq!(tables.open(sizes, first).number, 0);
         for _ in 0..random.below(60) {
             one_call(&mut random, sizes, &mut tables, &mut met);
         }
@@ -138,7 +139,7 @@ fn wrong_lengths_and_sizes() {
     for _ in 0..20_000 {
         let mut sizes = Sizes { words: 1 + random.below(6), records: 1 + random.below(4), tasks: 1 + random.below(3) };
         let mut tables = Tables::for_sizes(sizes);
-        tables.open(sizes, 1);
+        assert_eq!(tables.open(sizes, 1).number, 0);
         for _ in 0..random.below(12) {
             one_call(&mut random, sizes, &mut tables, &mut met);
         }

@@ -82,7 +82,7 @@ fn transactions_of_up_to_64_addresses() {
     for _ in 0..40 {
         let mut tables = Tables::for_sizes(sizes);
         let mut expected = tables.clone();
-        tables.open(sizes, 1);
+        assert_eq!(tables.open(sizes, 1).number, 0);
         open(sizes, 1, &mut expected);
         let mut machine = Machine::opened(sizes.words, sizes.records, sizes.tasks, 1);
         for round in 0..900 {
