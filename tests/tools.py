@@ -169,16 +169,16 @@ def wait_for_each_other(top, env):
 
 
 def gate(top, env):
-    """The gate ends with the verdict of rt, and stops at a part that fails. Its parts only pretend here."""
+    """The gate stops at a part that fails, and if none does it ends with the verdict of rt. Its parts only pretend here."""
     shutil.copytree(TOP / ".ci", top / ".ci")
     script(top / "bin/rt", '#!/bin/sh\necho "rt $*"\necho "${VERDICT:-3 passed, 0 failed}"\n[ -z "${VERDICT:-}" ]\n')
     script(top / "tools/embed", '#!/bin/sh\necho embedded\nexit "${EMBED:-0}"\n')
     script(top / "tests/tools.py", '#!/bin/sh\necho tried\nexit "${TOOLS:-0}"\n')
     for change, status, lines in (
-        ({}, 0, ["embedded", "tried", "rt ci", "3 passed, 0 failed"]),
-        ({"EMBED": "1"}, 1, ["embedded"]),
-        ({"TOOLS": "1"}, 1, ["embedded", "tried"]),
-        ({"VERDICT": "2 passed, 1 failed"}, 1, ["embedded", "tried", "rt ci", "2 passed, 1 failed"]),
+        ({}, 0, ["rt ci", "3 passed, 0 failed", "embedded", "tried", "3 passed, 0 failed"]),
+        ({"EMBED": "1"}, 1, ["rt ci", "3 passed, 0 failed", "embedded"]),
+        ({"TOOLS": "1"}, 1, ["rt ci", "3 passed, 0 failed", "embedded", "tried"]),
+        ({"VERDICT": "2 passed, 1 failed"}, 1, ["rt ci", "2 passed, 1 failed"]),
     ):
         same(f".ci/run with {change}", run([".ci/run"], cwd=top, env={**env, **change}), (status, lines, []))
 
