@@ -1,6 +1,6 @@
 -- Memories that are the same because their words, records, places and entries are.
 use Prim.Native.Nat.{ℕ, zero, suc, _+_, _%_, _<_, _≤_}
-use mathlib.Core.Path.{_≡_, sym, ap, _∙_, subst⁻¹}
+use mathlib.Core.Path.{_≡_, sym, ap, _∙_, subst⁻¹, subst}
 use mathlib.Core.Logic.{_⊎_, inl, inr, _≢_, ⊎-elim}
 use mathlib.Core.List.{List, [], _∷_, _++_}
 use mathlib.Core.Bool.{true, false}
@@ -9,9 +9,9 @@ use lib.ListN.{length, getD}
 use lib.Seq.{ext-getD}
 use native.Mathlib.Omega.{arith}
 use borrow.Author.Tests.{ltb-true, ltb-false}
-use Rattle.memory.specs.{Sizes, Open, Place, Seen, Entry, Memory, memory, place, placeOf, rowOf, bare, entry, entries, rowOfEntry, limit, runStart, blank, sound, _∈_, KeepsOthers, phase, New, OnRecord, Fresh, Entered, Written, entryRow, StoredFrom}
+use Rattle.memory.specs.{Sizes, Open, Place, Seen, Entry, Memory, memory, place, placeOf, rowOf, bare, entry, entries, rowOfEntry, limit, runStart, blank, logical, sound, _∈_, KeepsOthers, phase, Fresh, Entered, Written, entryRow, StoredFrom}
 use Rattle.memory.specs.Effects.{Goes}
-use Rattle.memory.proofs.Tools.{both, same?}
+use Rattle.memory.proofs.Tools.{both, same?, everywhere}
 use Rattle.memory.proofs.Find.{find?}
 use Rattle.memory.proofs.Stores.{run-at}
 use Rattle.memory.proofs.Facts.{places-length, entries-length, entries-count, row-held}
@@ -19,35 +19,38 @@ use Rattle.memory.proofs.Facts.{places-length, entries-length, entries-
 pub same-memory : (m k : Memory) → m .words ≡ k .words → m .records ≡ k .records → m .places ≡ k .places → m .entries ≡ k .entries → m ≡ k
 same-memory m k w r p e = λ i. memory (w i) (r i) (p i) (e i)
 
--- what holds at one number and at every other
-pub everywhere : (P : ℕ → Type 0) (t : ℕ) → P t → ((u : ℕ) → u ≢ t → P u) → (u : ℕ) → P u
-everywhere P t p f u = ⊎-elim (λ q. subst⁻¹ P q p) (f u) (same? u t)
-
 -- Entries ------------------------------------------------------------------------------------------------------------------------------
 
 same-entry : (e f : Entry) → e .address ≡ f .address → e .old ≡ f .old → e .new .value ≡ f .new .value → e .new .version ≡ f .new .version → e ≡ f
 same-entry e f a o v w = λ i. record { address = a i; old = o i; new = record { value = v i; version = w i } }
 
-module _ (z : Sizes) (m : Memory) (t a : ℕ) where
-  one-fresh : (e f : Entry) → Fresh z m t a e → Fresh z m t a f → e ≡ f
-  one-fresh e f x y =
-      same-entry e f (x .address ∙ sym (y .address)) (x .old ∙ sym (y .old)) (x .value ∙ sym (y .value)) (⊎-elim (λ v. v) (λ ne. absurd (apart ne)) (same? _ _))
-    where
-      apart : e .new .version ≢ f .new .version → ⊥
-      apart ne = ne (x .none nobody ∙ ap (λ (s : Seen). s .version) (x .old ∙ sym (y .old)) ∙ sym (y .none nobody))
-        where
-          nobody : OnRecord z m t a (λ v. Unit {0}) → ⊥
-          nobody (d, k, q, _) = ne (x .others d k q ∙ sym (y .others d k q))
+-- on two tables with the same entries of a task, and the same sight of an address, the same is entered
+module _ (z : Sizes) (t a : ℕ) (m m′ : Memory) (same : entries z m′ t ≡ entries z m t) (sight : logical z m′ a ≡ logical z m a) where
+  there : (e : Entry) → e ∈ entries z m t → e ∈ entries z m′ t
+  there e k = subst⁻¹ (λ (l : List Entry). e ∈ l) same k
 
-  pub one-entered : (es fs : List Entry) → Entered z m t a es → Entered z m t a fs → es ≡ fs
-  one-entered es fs x y = go (find? a (entries z m t))
+  back : (e : Entry) → e ∈ entries z m′ t → e ∈ entries z m t
+  back e k = subst (λ (l : List Entry). e ∈ l) same k
+
+  fresh-same : (e e′ : Entry) → Fresh z m t a e → Fresh z m′ t a e′ → e′ ≡ e
+  fresh-same e e′ F G =
+      same-entry e′ e (G .address ∙ sym (F .address)) old (G .value ∙ ap (λ (s : Seen). s .value) sight ∙ sym (F .value))
+      (⊎-elim (λ k. G .others (k .0) (there (k .0) (k .1)) (k .2) ∙ sym (F .others (k .0) (k .1) (k .2)))
+      (λ nobody. G .none (λ x. nobody (x .0) (back (x .0) (x .1)) (x .2)) ∙ ap (λ (s : Seen). s .version) old
+      ∙ sym (F .none (λ x. nobody (x .0) (x .1) (x .2))))
+      (find? (λ e. e .address % z .records) (a % z .records) (entries z m t)))
     where
-      go : ((e : Entry) × e ∈ entries z m t × (e .address ≡ a)) ⊎ New z m t a → es ≡ fs
-      go (inl (e, k, q)) = let old : New z m t a → ⊥ = λ new. new e k q in x .known old ∙ sym (y .known old)
-      go (inr new) =
-          let (e, E, i) = x .new new in
-          let (f, F, j) = y .new new in
-          i ∙ ap (λ (d : Entry). entries z m t ++ d ∷ []) (one-fresh e f E F) ∙ sym j
+      old : e′ .old ≡ e .old
+      old = G .old ∙ sight ∙ sym (F .old)
+
+  pub entered-same : (es es′ : List Entry) → Entered z m t a es → Entered z m′ t a es′ → es′ ≡ es
+  entered-same es es′ E G =
+      ⊎-elim (λ k. G .known (λ new. new (k .0) (there (k .0) (k .1)) (k .2)) ∙ same ∙ sym (E .known (λ new. new (k .0) (k .1) (k .2))))
+      (λ new.
+      let x = E .new new in
+      let y = G .new (λ e k. new e (back e k)) in
+      y .2 ∙ ap (λ (l : List Entry). l ++ y .0 ∷ []) same ∙ ap (λ (e : Entry). entries z m t ++ e ∷ []) (fresh-same (x .0) (y .0) (x .1) (y .1)) ∙ sym (x .2))
+      (find? (λ e. e .address) a (entries z m t))
 
 pub one-written : (n a v : ℕ) (e x y : Entry) → Written n a v e x → Written n a v e y → x ≡ y
 one-written n a v e x y p q =
@@ -64,11 +67,11 @@ in-run z zero = (0, 0, omega arith, omega arith)
 in-run z (suc k) = go (in-run z k)
   where
     go : (u : ℕ) × (i : ℕ) × (i < limit z) × (k ≡ runStart z u + i) → (u : ℕ) × (i : ℕ) × (i < limit z) × (suc k ≡ runStart z u + i)
-    go (u, i, h, q) = more (both (ltb (suc i) 64))
+    go (u, i, h, q) = more (both (ltb (suc i) (limit z)))
       where
-        more : (ltb (suc i) 64 ≡ true) ⊎ (ltb (suc i) 64 ≡ false) → (u : ℕ) × (i : ℕ) × (i < limit z) × (suc k ≡ runStart z u + i)
+        more : (ltb (suc i) (limit z) ≡ true) ⊎ (ltb (suc i) (limit z) ≡ false) → (u : ℕ) × (i : ℕ) × (i < limit z) × (suc k ≡ runStart z u + i)
         more (inl d) = (u, suc i, ltb-true _ _ d, omega (arith, q))
-        more (inr d) = (suc u, 0, omega arith, omega (arith, q, h, ltb-false (suc i) 64 d))
+        more (inr d) = (suc u, 0, omega arith, omega (arith, q, h, ltb-false (suc i) (limit z) d))
 
 module _ (z : Sizes) (m₁ m₂ : Memory) (ok₁ : sound z m₁ ≡ true) (ok₂ : sound z m₂ ≡ true) where
   -- sound tables with the same places have the same rows for them

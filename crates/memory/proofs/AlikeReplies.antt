@@ -3,16 +3,17 @@ use Prim.Native.Nat.{ℕ, _<_, _≤_}
 use mathlib.Core.Path.{_≡_, refl, sym, ap, _∙_}
 use mathlib.Core.Logic.{_⊎_, inl, inr, ⊎-elim}
 use mathlib.Core.List.{List, [], _∷_}
-use mathlib.Core.Bool.{Bool, true, false, _&&_, true≢false}
+use mathlib.Core.Bool.{Bool, true, false, _&&_}
 use lib.Dec.{ltb}
 use borrow.Author.Tests.{ltb-true, ltb-false}
 use Rattle.memory.specs.{Sizes, Memory, sound, Reply, reply, refusal, Row, Given, refusals}
 use Rattle.memory.proofs.Tools.{both, and-0, and-1}
+use Rattle.memory.proofs.Cases.{no-refusal}
 use Rattle.memory.proofs.Answers.{one-number}
 
 -- a number that is no refusal is not that of a row of refusals, but of the rows after it
 pub past : {C X : Type 0} {n : ℕ} (k : ℕ) → refusal k ≡ true → refusal n ≡ false → (C × (n ≡ k)) ⊎ ((C → ⊥) × X) → (C → ⊥) × X
-past k b c (inl x) = absurd (true≢false (sym b ∙ ap refusal (sym (x .1)) ∙ c))
+past {n = n} k b c (inl x) = no-refusal n c k b (sym (x .1))
 past k b c (inr x) = x
 
 -- with rows of refusals only, it is 0

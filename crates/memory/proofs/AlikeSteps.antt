@@ -5,10 +5,10 @@ use mathlib.Core.Logic.{_⊎_, inl, inr, _≢_, ⊎-elim}
 use mathlib.Core.Bool.{true}
 use native.Mathlib.Omega.{arith}
 use Rattle.memory.specs.{Sizes, Phase, Idle, Open, Taking, Asleep, Writing, Releasing, Place, Held, Version, Owner, Memory, positionOf, place, entry, held, sound, phase, Same, ButAt, Left, Moves, Writes, Holds, Steps, Meets, Clash}
-use Rattle.memory.proofs.Tools.{same?}
+use Rattle.memory.proofs.Tools.{same?, everywhere}
 use Rattle.memory.proofs.Facts.{position-n}
 use Rattle.memory.proofs.Tables.{is-owner?, words-back, records-back}
-use Rattle.memory.proofs.Alike.{everywhere, same-table}
+use Rattle.memory.proofs.Alike.{same-table}
 
 -- what stands at each number afterwards is told by what stood there before
 abbrev Tells : {A : Type 0} → ((ℕ → A) → (ℕ → A) → Type 0) → Type 0

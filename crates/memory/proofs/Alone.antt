@@ -5,9 +5,9 @@ use mathlib.Core.Bool.{true}
 use lib.ListN.{length, replicate}
 use native.Mathlib.Omega.{arith}
 use Rattle.memory.specs.{Sizes, Commit, Committed, Idle, Taking, Writing, Releasing, Memory, place, entry, entries, bare, sound, SP, numbers, phase, thenAnswers, AloneItCommits, ours}
+use Rattle.memory.proofs.Codes.{count-of, phase-of}
 use Rattle.memory.proofs.Facts.{entries-count}
 use Rattle.memory.proofs.Fresh.{entry-in}
-use Rattle.memory.proofs.Tables.{count-of, phase-of}
 use Rattle.memory.proofs.Runs.{Reaches, goes-on, reaches}
 use Rattle.memory.proofs.OneStep.{Stands, decides, writes, wrote-all}
 use Rattle.memory.proofs.LetGo.{LetGo, lets-go}

@@ -8,15 +8,15 @@ use lib.Dec.{eqb, ltb, leb}
 use lib.ListN.{length, getD}
 use native.Mathlib.Omega.{arith}
 use borrow.Author.Tests.{ltb-true, ltb-false, leb-true, leb-false, eqb-true, eqb-false, not-true, not-false}
-use Rattle.memory.specs.{if_then_else_, Sizes, Phase, Idle, Open, Entry, Memory, isIdle, isOpen, steps, place, entry, entries, limit, topVersion, index, indexOf, indexOn, blank, logical, sound, Reply, refusal, asked, start, abort, commit, wait, fresh, known, added, overtaken, addressed, read, store, write, step, Call, ST, CM, AB, WT, SP, RD, WR, call, ours, _∈_, Row, Given, OneNumber, phase, New, OnRecord, Overtaken, OldVersion, refusals, unusable, rowsOf, Valued, CallAnswers}
-use Rattle.memory.proofs.Tools.{same?, if-cases, and-0, and-1}
+use Rattle.memory.specs.{if_then_else_, Sizes, Phase, Idle, Open, Entry, Memory, isIdle, isOpen, steps, place, entries, limit, topVersion, index, indexOf, indexOn, blank, logical, sound, Reply, asked, start, abort, commit, wait, fresh, known, added, overtaken, addressed, read, store, write, step, Call, ST, CM, AB, WT, SP, RD, WR, call, ours, _∈_, Row, Given, OneNumber, phase, New, OnRecord, Overtaken, OldVersion, refusals, unusable, rowsOf, Valued, CallAnswers}
+use Rattle.memory.proofs.Tools.{if-cases, and-0, and-1}
 use Rattle.memory.proofs.Codes.{is-idle, is-open}
-use Rattle.memory.proofs.Cases.{asked-cases, addressed-cases, asked-0}
-use Rattle.memory.proofs.Facts.{count-most, entries-apart, agree}
+use Rattle.memory.proofs.Cases.{no-refusal, asked-cases, addressed-cases, asked-0}
+use Rattle.memory.proofs.Facts.{count-most}
 use Rattle.memory.proofs.Find.{index-found}
-use Rattle.memory.proofs.Went.{not-steps, step-goes, step-cases}
+use Rattle.memory.proofs.Went.{not-steps, step-goes, step-cases, steps-not}
 use Rattle.memory.proofs.StepAnswers.{ending, nought, went-given}
-use Rattle.memory.proofs.Fresh.{in-entries, known-in, no-entry, Beside, beside}
+use Rattle.memory.proofs.Fresh.{known-in, no-entry, Beside, beside, agreed, one-entry}
 
 pub one-number : OneNumber
 one-number [] n k p q = p ∙ sym q
@@ -26,8 +26,8 @@ one-number (r ∷ rows) n k (inr x) (inl y) = absurd (x .0 (y .0))
 one-number (r ∷ rows) n k (inr x) (inr y) = one-number rows n k (x .1) (y .1)
 
 -- one row: the test is its condition
-pub when : (b : Bool) (k : ℕ) (C : Type 0) (rows : List Row) (x y : Reply) → (b ≡ true → C) → (b ≡ false → C → ⊥) → x .number ≡ k → (b ≡ false → Given rows (y .number))
-    → Given ((k, C) ∷ rows) ((if b then x else y) .number)
+pub when : (b : Bool) (k : ℕ) (C : Type 0) (rows : List Row) (x y : Reply) → (b ≡ true → C) → (b ≡ false → C → ⊥) → x .number ≡ k
+    → (b ≡ false → Given rows (y .number)) → Given ((k, C) ∷ rows) ((if b then x else y) .number)
 when true k C rows x y f g e h = inl (f refl, e)
 when false k C rows x y f g e h = inr (g refl, h refl)
 
@@ -38,8 +38,10 @@ asked-given : (z : Sizes) (m : Memory) (t : ℕ) (allows : Phase → Bool) (body
     → Given (refusals z m t Disallowed rows) (asked z m t allows body .number)
 unfolding asked
 asked-given z m t allows body Disallowed rows f g h =
-    when (not (sound z m)) 1 (sound z m ≡ false) ((3, z .tasks ≤ t) ∷ (4, Disallowed) ∷ rows) _ _ (λ a. not-true _ a) (λ a x. true≢false (sym (not-false _ a) ∙ x)) refl (λ a.
-    when (not (ltb t (z .tasks))) 3 (z .tasks ≤ t) ((4, Disallowed) ∷ rows) _ _ (λ b. ltb-false _ _ (not-true _ b)) (λ b x. omega (arith, x, ltb-true t (z .tasks) (not-false _ b))) refl (λ b.
+    when (not (sound z m)) 1 (sound z m ≡ false) ((3, z .tasks ≤ t) ∷ (4, Disallowed) ∷ rows) _ _
+    (λ a. not-true _ a) (λ a x. true≢false (sym (not-false _ a) ∙ x)) refl (λ a.
+    when (not (ltb t (z .tasks))) 3 (z .tasks ≤ t) ((4, Disallowed) ∷ rows) _ _
+    (λ b. ltb-false _ _ (not-true _ b)) (λ b x. omega (arith, x, ltb-true t (z .tasks) (not-false _ b))) refl (λ b.
     when (not (allows (place m t .phase))) 4 Disallowed rows _ _ (λ c. g (not-true _ c)) (λ c. f (not-false _ c)) refl (λ c.
     h (not-false _ a) (ltb-true _ _ (not-false _ b)) (not-false _ c))))
 
@@ -62,40 +64,6 @@ module _ (z : Sizes) (m : Memory) (t a : ℕ) (ok : sound z m ≡ true) (lt : t 
 
   abbrev es : List Entry
   es = entries z m t
-
-  -- two entries on one record have one old and one new version
-  agreeing : (e f : Entry) → e ∈ es → f ∈ es → e .address % z .records ≡ f .address % z .records → (e .old .version ≡ f .old .version) × (e .new .version ≡ f .new .version)
-  agreeing e f j k q =
-      let x = in-entries z m ok t lt e j in
-      let y = in-entries z m ok t lt f k in
-      let w = agree z m ok t lt (x .0) (y .0) (x .1) (y .1) (sym (ap (λ (d : Entry). d .address % z .records) (x .2)) ∙ q ∙ ap (λ (d : Entry). d .address % z .records) (y .2)) in (
-        ap (λ (d : Entry). d .old .version) (x .2) ∙ w .0 ∙ sym (ap (λ (d : Entry). d .old .version) (y .2)),
-        ap (λ (d : Entry). d .new .version) (x .2) ∙ w .1 ∙ sym (ap (λ (d : Entry). d .new .version) (y .2)),
-      )
-
-  pub agreed : (e f : Entry) → e ∈ es → f ∈ es → e .address % z .records ≡ f .address % z .records → e .old .version ≡ f .old .version
-  agreed e f j k q = agreeing e f j k q .0
-
-  pub agreed-new : (e f : Entry) → e ∈ es → f ∈ es → e .address % z .records ≡ f .address % z .records → e .new .version ≡ f .new .version
-  agreed-new e f j k q = agreeing e f j k q .1
-
-  -- there is one entry at most for an address
-  pub one-entry : (e f : Entry) → e ∈ es → f ∈ es → e .address ≡ f .address → e ≡ f
-  one-entry e f j k q = x .2 ∙ ap (entry z m t) (go (same? (x .0) (y .0)) (ltb (x .0) (y .0)) refl) ∙ sym (y .2)
-    where
-      x : (i : ℕ) × (i < c) × (e ≡ entry z m t i)
-      x = in-entries z m ok t lt e j
-
-      y : (i : ℕ) × (i < c) × (f ≡ entry z m t i)
-      y = in-entries z m ok t lt f k
-
-      p : entry z m t (x .0) .address ≡ entry z m t (y .0) .address
-      p = sym (ap (λ (d : Entry). d .address) (x .2)) ∙ q ∙ ap (λ (d : Entry). d .address) (y .2)
-
-      go : (x .0 ≡ y .0) ⊎ (x .0 ≢ y .0) → (b : Bool) → ltb (x .0) (y .0) ≡ b → x .0 ≡ y .0
-      go (inl s) b d = s
-      go (inr s) true d = absurd (entries-apart z m ok t lt (x .0) (y .0) (ltb-true _ _ d) (y .1) .0 p)
-      go (inr s) false d = absurd (entries-apart z m ok t lt (y .0) (x .0) (omega (arith, ltb-false (x .0) (y .0) d)) (x .1) .0 (sym p))
 
   pub not-new : indexOf a es < c → New z m t a → ⊥
   not-new h x = let k = known-in z m ok t lt a h in x (known z m t a) (k .0) (k .1)
@@ -121,14 +89,16 @@ module _ (z : Sizes) (m : Memory) (t a : ℕ) (ok : sound z m ≡ true) (lt : t 
   level o e j q = go (beside z m ok t lt a o)
     where
       go : Beside z m ok t lt a → e .old .version ≡ logical z m a .version
-      go (inl (f, k, s, v, w)) = agreed e f j k (q ∙ sym s) ∙ v
+      go (inl (f, k, s, v, w)) = agreed z m ok t lt e f j k (q ∙ sym s) .0 ∙ v
       go (inr (none, w)) = absurd (none e j q)
 
   -- 8
   stored-given : (with-it : Memory) (v n : ℕ) (x : Entry) → (x .old .version ≡ topVersion → OldVersion z m t a topVersion)
       → (OldVersion z m t a topVersion → x .old .version ≡ topVersion) → Given ((8, OldVersion z m t a topVersion) ∷ []) (store z m with-it t a v n x .number)
   unfolding store
-  stored-given with-it v n x f g = when (eqb (x .old .version) topVersion) 8 (OldVersion z m t a topVersion) [] _ _ (λ d. f (eqb-true _ _ d)) (λ d o. eqb-false _ _ d (g o)) refl (λ d. refl)
+  stored-given with-it v n x f g =
+      when (eqb (x .old .version) topVersion) 8 (OldVersion z m t a topVersion) [] _ _
+      (λ d. f (eqb-true _ _ d)) (λ d o. eqb-false _ _ d (g o)) refl (λ d. refl)
 
   known-given : (v : ℕ) → indexOf a es < c → Given ((8, OldVersion z m t a topVersion) ∷ []) (store z m m t a v c (known z m t a) .number)
   known-given v h = stored-given m v c x (λ e. inl (x, k .0, q, e)) go
@@ -143,10 +113,11 @@ module _ (z : Sizes) (m : Memory) (t a : ℕ) (ok : sound z m ≡ true) (lt : t 
       q = ap (λ (b : ℕ). b % z .records) (k .1)
 
       go : OldVersion z m t a topVersion → x .old .version ≡ topVersion
-      go (inl (e, j, s, w)) = agreed x e (k .0) j (q ∙ sym s) ∙ w
+      go (inl (e, j, s, w)) = agreed z m ok t lt x e (k .0) j (q ∙ sym s) .0 ∙ w
       go (inr (none, w)) = absurd (none (x, k .0, q, tt))
 
-  new-given : (v : ℕ) → overtaken z m t a ≡ false → Given ((8, OldVersion z m t a topVersion) ∷ []) (store z m (added z m t a) t a v (suc c) (fresh z m t a) .number)
+  new-given : (v : ℕ) → overtaken z m t a ≡ false
+      → Given ((8, OldVersion z m t a topVersion) ∷ []) (store z m (added z m t a) t a v (suc c) (fresh z m t a) .number)
   unfolding fresh
   new-given v o = stored-given (added z m t a) v (suc c) (fresh z m t a) (there (beside z m ok t lt a o)) go
     where
@@ -183,12 +154,6 @@ addressed-given z m t a known new rows g h =
     nine : Row
     nine = (9, Overtaken z m t a)
 
--- The step -----------------------------------------------------------------------------------------------------------------------------
-
-steps-not : (p : Phase) → steps p ≡ true → (p ≡ Idle) ⊎ (p ≡ Open) → ⊥
-steps-not p s (inl e) = true≢false (sym s ∙ ap steps e)
-steps-not p s (inr e) = true≢false (sym s ∙ ap steps e)
-
 -- All calls ------------------------------------------------------------------------------------------------------------------------------
 
 pub numbers-given : (z : Sizes) (m : Memory) (c : Call) → Given (rowsOf z m c (call z m c .after)) (call z m c .number)
@@ -200,11 +165,14 @@ numbers-given z m (WT t) =
     open-given z m t _ ((7, place m t .count ≡ 0) ∷ []) (λ ok lt op.
     when (eqb (place m t .count) 0) 7 (place m t .count ≡ 0) [] _ _ (λ d. eqb-true _ _ d) (λ d. eqb-false _ _ d) refl (λ d. refl))
 numbers-given z m (SP t) =
-    asked-given z m t steps _ ((phase m t ≡ Idle) ⊎ (phase m t ≡ Open)) (ending (place m t .count) (phase m t) (phase (step z m t .after) t)) (steps-not _) (not-steps _) (λ ok lt s.
+    asked-given z m t steps _ ((phase m t ≡ Idle) ⊎ (phase m t ≡ Open)) (ending (place m t .count) (phase m t) (phase (step z m t .after) t))
+    (steps-not _) (not-steps _) (λ ok lt s.
     subst (λ (r : Reply). Given (ending (place m t .count) (phase m t) (phase (step z m t .after) t)) (r .number)) (asked-0 z m t steps _ ok lt s)
     (went-given z m t ok lt refl (step-goes z m t ok lt s)))
 numbers-given z m (RD t a) = addressed-given z m t a _ _ [] (λ ok lt k. refl) (λ ok lt o. refl)
-numbers-given z m (WR t a v) = addressed-given z m t a _ _ ((8, OldVersion z m t a topVersion) ∷ []) (λ ok lt k. known-given z m t a ok lt v k) (λ ok lt o. new-given z m t a ok lt v o)
+numbers-given z m (WR t a v) =
+    addressed-given z m t a _ _ ((8, OldVersion z m t a topVersion) ∷ [])
+    (λ ok lt k. known-given z m t a ok lt v k) (λ ok lt o. new-given z m t a ok lt v o)
 
 -- The value --------------------------------------------------------------------------------------------------------------------------------
 
@@ -227,17 +195,16 @@ module _ (z : Sizes) (m : Memory) where
       addressed-cases z m t a _ _ Nought (λ n k. refl) (λ ok lt op. refl)
       (λ ok lt op w k. store-nought m t a v _ (known z m t a)) (λ ok lt op w k room o. store-nought (added z m t a) t a v _ (fresh z m t a))
   values-given (RD t a) =
-      addressed-cases z m t a _ _ (Valued z m (RD t a)) (λ n k. (λ e. refl, λ e. absurd (none n k e), λ e. absurd (none n k e)))
+      addressed-cases z m t a _ _ (Valued z m (RD t a)) (λ n k. (λ e. refl, no-refusal 0 refl n k, no-refusal 0 refl n k))
       (λ ok lt op. (λ e. refl, λ e. absurd (omega (arith, e)), λ e. absurd (omega (arith, e))))
       (λ ok lt op w k. (λ e. absurd (e refl), λ e f j q. same ok lt k f j q, λ e new. absurd (not-new z m t a ok lt k new)))
       (λ ok lt op w k room o. (λ e. absurd (e refl), λ e f j q. absurd (no-entry z m ok t lt a k f j q), λ e new. refl))
     where
-      none : (n : ℕ) → refusal n ≡ true → n ≡ 0 → ⊥
-      none n k e = false≢true (ap refusal (sym e) ∙ k)
-
       same : (ok : sound z m ≡ true) (lt : t < z .tasks) → indexOf a (entries z m t) < place m t .count
           → (f : Entry) → f ∈ entries z m t → f .address ≡ a → known z m t a .new .value ≡ f .new .value
-      same ok lt k f j q = let x = known-in z m ok t lt a k in ap (λ (e : Entry). e .new .value) (one-entry z m t a ok lt (known z m t a) f (x .0) j (x .1 ∙ sym q))
+      same ok lt k f j q =
+          let x = known-in z m ok t lt a k in
+          ap (λ (e : Entry). e .new .value) (one-entry z m ok t lt (known z m t a) f (x .0) j (x .1 ∙ sym q))
 
 pub call-answers : CallAnswers ours
 call-answers z m c = (numbers-given z m c, values-given z m c)

@@ -1,5 +1,5 @@
--- Start, Reads and Writes that are answered 0, and the Commit: an entry whose record holds a version has that version, and its address is
--- one of those used.
+-- Start, Reads and Writes that are answered 0, and the Commit: an entry whose record holds a version has that version, and its
+-- address is one of those used.
 use Prim.Native.Nat.{ℕ, _%_, _<_}
 use mathlib.Core.Path.{_≡_, refl, sym, ap, _∙_, subst, subst⁻¹}
 use mathlib.Core.Logic.{_≢_, ⊎-elim}
@@ -9,14 +9,15 @@ use lib.ListN.{length}
 use native.Mathlib.Omega.{arith}
 use Rattle.memory.specs.{Sizes, Commit, Open, Taking, Place, Held, Version, Owner, Seen, Entry, Memory, steps, place, entry, entries, run, held, bare, logical, logicalAt, sound, ST, CM, RD, WR, call, leaves, numbers, rowsOf, _∈_, phase, KeepsOthers, Fresh, Entered, Use, reads, writes, useBy, addressOf, body, AllZero, ours}
 use Rattle.memory.proofs.Tools.{all-map, all-snoc}
+use Rattle.memory.proofs.Codes.{count-of, phase-of}
 use Rattle.memory.proofs.Find.{find?}
-use Rattle.memory.proofs.Facts.{entries-count}
+use Rattle.memory.proofs.Stores.{held-from, entry-from}
+use Rattle.memory.proofs.Facts.{entries-count, owns-none}
 use Rattle.memory.proofs.Fresh.{entry-in}
 use Rattle.memory.proofs.SoundLasts.{call-sound}
 use Rattle.memory.proofs.Narrow.{calls-are-narrow}
 use Rattle.memory.proofs.Answers.{one-number, numbers-given}
 use Rattle.memory.proofs.Effects.{requests-leave}
-use Rattle.memory.proofs.Tables.{count-of, phase-of, owns-none, held-from, entry-from}
 use Rattle.memory.proofs.Runs.{not-refused}
 
 keeps-on : (z : Sizes) (t : ℕ) (m m₁ m₂ : Memory) → KeepsOthers z m t m₁ → KeepsOthers z m₁ t m₂ → KeepsOthers z m t m₂
@@ -61,7 +62,7 @@ module _ (z : Sizes) (t : ℕ) (A : ℕ → Type 0) where
     entered-level a i es E =
         ⊎-elim (λ k. subst⁻¹ P (E .known (λ new. new (k .0) (k .1) (k .2))) (B .level))
         (λ new. let x = E .new new in subst⁻¹ P (x .2) (all-snoc (Level m) (entries z m t) (x .0) (B .level) (fresh-level a i (x .0) (x .1))))
-        (find? a (entries z m t))
+        (find? (λ e. e .address) a (entries z m t))
       where
         P : List Entry → Type 0
         P l = (e : Entry) → e ∈ l → Level m e

@@ -7,9 +7,19 @@ use mathlib.Core.Bool.{true, false}
 use lib.Dec.{eqb}
 use native.Mathlib.Omega.{arith}
 use borrow.Author.Tests.{eqb-false}
-use Rattle.memory.specs.{Sizes, Commit, Committed, Failed, Woken, Phase, Idle, Open, Taking, Asleep, Releasing, Owner, Place, Memory, kindOf, held, place, entry, sound, openBoard, look, Call, SP, RD, WR, call, Machine, small, phase, Row, Given, refusals, rowsOf, InRange, Fits, CallAnswers, OpeningAnswers, LookAnswers, Meets, Clash, ClashesEnd}
+use Rattle.memory.specs.{Sizes, Commit, Phase, Idle, Open, Taking, Owner, Place, Memory, memory, kindOf, held, place, entry, sound, opened, openBoard, look, Call, SP, RD, WR, call, Machine, boardAfter, small, phase, Row, Given, refusals, rowsOf, InRange, Fits, CallAnswers, OpeningAnswers, LookAnswers, Meets, Clash, ClashesEnd}
+use Rattle.memory.proofs.StepAnswers.{ending}
 use Rattle.memory.proofs.Answers.{one-number, numbers-given}
 use Rattle.memory.proofs.OpenAnswers.{opening-answers, look-answers}
+
+-- the small board after calls, from the first version 1
+unfoldable pub after : List Call → Memory
+unfolding boardAfter
+after cs = boardAfter (opened small 1) cs
+
+-- lent nothing at all
+unfoldable pub nothing : Memory
+nothing = memory [] [] [] []
 
 -- two things that differ in a number are not one; a place by the kind of its phase
 pub differ : {A : Type 0} (f : A → ℕ) {a b : A} → a ≡ b → eqb (f a) (f b) ≡ false → ⊥
@@ -22,7 +32,8 @@ phaseKind q = kindOf (q .phase)
 other-number : (M : Machine) (z : Sizes) (m : Memory) (c : Call) → rowsOf z m c (M .call z m c .after) ≡ rowsOf z m c (call z m c .after)
     → eqb (M .call z m c .number) (call z m c .number) ≡ false → CallAnswers M → ⊥
 other-number M z m c same ne h =
-    eqb-false _ _ ne (one-number (rowsOf z m c (call z m c .after)) _ _ (subst (λ (l : List Row). Given l (M .call z m c .number)) same (h z m c .0)) (numbers-given z m c))
+    eqb-false _ _ ne
+    (one-number (rowsOf z m c (call z m c .after)) _ _ (subst (λ (l : List Row). Given l (M .call z m c .number)) same (h z m c .0)) (numbers-given z m c))
 
 -- of Read and Write they do not ask for it
 pub other-read : (M : Machine) (z : Sizes) (m : Memory) (t a : ℕ) → eqb (M .call z m (RD t a) .number) (call z m (RD t a) .number) ≡ false → CallAnswers M → ⊥
@@ -38,20 +49,17 @@ pub other-step : (M : Machine) (z : Sizes) (m : Memory) (t : ℕ) (p : Phase) �
 other-step M z m t p e f = other-number M z m (SP t) (ap rows-to (e ∙ sym f))
   where
     rows-to : Phase → List Row
-    rows-to q =
-        refusals z m t ((phase m t ≡ Idle) ⊎ (phase m t ≡ Open))
-        ((20, q ≡ Asleep)
-        ∷ (21, phase m t ≡ Releasing Committed (place m t .count))
-        ∷ (22, phase m t ≡ Releasing Failed (place m t .count))
-        ∷ (23, phase m t ≡ Releasing Woken (place m t .count)) ∷ [])
+    rows-to q = refusals z m t ((phase m t ≡ Idle) ⊎ (phase m t ≡ Open)) (ending (place m t .count) (phase m t) q)
 
 pub other-opening : (M : Machine) (z : Sizes) (v : ℕ) (m : Memory) → eqb (M .openBoard z v m .number) (openBoard z v m .number) ≡ false → OpeningAnswers M → ⊥
 other-opening M z v m ne h =
-    eqb-false _ _ ne (one-number ((2, InRange z v → ⊥) ∷ (1, Fits z m → ⊥) ∷ []) (M .openBoard z v m .number) (openBoard z v m .number) (h z v m .0) (opening-answers z v m .0))
+    eqb-false _ _ ne
+    (one-number ((2, InRange z v → ⊥) ∷ (1, Fits z m → ⊥) ∷ []) (M .openBoard z v m .number) (openBoard z v m .number) (h z v m .0) (opening-answers z v m .0))
 
 pub other-look : (M : Machine) (z : Sizes) (m : Memory) (a : ℕ) → eqb (M .look z m a .number) (look z m a .number) ≡ false → LookAnswers M → ⊥
 other-look M z m a ne h =
-    eqb-false _ _ ne (one-number ((1, sound z m ≡ false) ∷ (5, z .words ≤ a) ∷ []) (M .look z m a .number) (look z m a .number) (h z m a .0) (look-answers z m a .0))
+    eqb-false _ _ ne
+    (one-number ((1, sound z m ≡ false) ∷ (5, z .words ≤ a) ∷ []) (M .look z m a .number) (look z m a .number) (h z m a .0) (look-answers z m a .0))
 
 -- where task 1 comes to a record that task 0 owns, a machine that keeps the claim has them clash
 pub met : (M : Machine) (m : Memory) → sound small m ≡ true → phase m 1 ≡ Taking Commit 0 → place m 1 .count ≡ 1

@@ -1,22 +1,23 @@
 -- What a request and an opening leave where they are not refused.
-use Prim.Native.Nat.{ℕ, zero, suc, _+_, _%_, _<_, _≤_}
+use Prim.Native.Nat.{ℕ, suc, _+_, _%_, _<_, _≤_}
 use mathlib.Core.Path.{_≡_, refl, sym, ap, _∙_, subst⁻¹}
 use mathlib.Core.Logic.{inl, inr}
-use mathlib.Core.List.{List, [], map}
-use mathlib.Core.Bool.{Bool, true, false, not, _&&_, false≢true}
+use mathlib.Core.List.{List, map}
+use mathlib.Core.Bool.{Bool, true, false}
 use lib.Dec.{eqb}
-use lib.ListN.{length, getD, replicate, length-replicate}
+use lib.ListN.{length, length-replicate}
 use native.Mathlib.Omega.{arith}
 use borrow.Author.Tests.{eq-eqb, ne-eqb}
-use Rattle.memory.specs.{if_then_else_, Sizes, Commit, Sleep, Phase, Idle, Open, Taking, Place, Entry, Memory, isIdle, isOpen, place, placeOf, moved, bare, entries, run, runStart, limit, setPlace, move, topVersion, indexOf, logical, sound, Reply, refusal, start, abort, commit, wait, fresh, known, added, overtaken, opened, openBoard, sizesOk, lengthsOk, within, rowOf, rowOfEntry, phaseOf, blank, read, written, rewrite, store, write, ST, CM, AB, WT, SP, RD, WR, call, ours, _∈_, phase, OnRecord, Fresh, Entered, Written, RequestsLeave, Opened, OpeningLeaves}
+use Rattle.memory.specs.{if_then_else_, Sizes, Commit, Sleep, Phase, Idle, Open, Taking, Place, Entry, Memory, isIdle, isOpen, place, moved, bare, entries, run, runStart, limit, setPlace, move, topVersion, indexOf, logical, sound, Reply, start, abort, commit, wait, fresh, known, added, overtaken, opened, rowOf, rowOfEntry, blank, read, written, rewrite, store, write, ST, CM, AB, WT, SP, RD, WR, call, ours, _∈_, phase, OnRecord, Fresh, Entered, Written, RequestsLeave, Opened, OpeningLeaves}
 use Rattle.memory.specs.Effects.{Goes, Leaves}
+use Rattle.memory.proofs.SoundLasts.{opened-idle}
 use Rattle.memory.proofs.Tools.{if-cases}
-use Rattle.memory.proofs.Codes.{place-back}
-use Rattle.memory.proofs.Cases.{asked-cases, addressed-cases}
-use Rattle.memory.proofs.Stores.{place-same, rewrite-places, rewrite-all}
+use Rattle.memory.proofs.Codes.{count-of, phase-of}
+use Rattle.memory.proofs.Cases.{no-refusal, opening-cases, asked-cases, addressed-cases}
+use Rattle.memory.proofs.Stores.{place-same, rewrite-places, rewrite-all, place-from}
 use Rattle.memory.proofs.Facts.{in-places, run-fits}
-use Rattle.memory.proofs.Fresh.{no-entry, Beside, beside, added-place, added-run, added-fits}
-use Rattle.memory.proofs.Answers.{not-new, agreed-new}
+use Rattle.memory.proofs.Fresh.{no-entry, Beside, beside, added-place, added-run, added-fits, agreed}
+use Rattle.memory.proofs.Answers.{not-new}
 
 -- The requests -----------------------------------------------------------------------------------------------------------------------
 
@@ -33,12 +34,6 @@ is-written n a v e =
     }
 
 module _ (z : Sizes) (m : Memory) (t : ℕ) where
-  none : {A : Type 0} (n : ℕ) → refusal n ≡ true → n ≡ 0 → A
-  none n k e = absurd (false≢true (ap refusal (sym e) ∙ k))
-
-  none-9 : {A : Type 0} (n : ℕ) → refusal n ≡ true → n ≡ 9 → A
-  none-9 n k e = absurd (false≢true (ap refusal (sym e) ∙ k))
-
   module _ (ok : sound z m ≡ true) (lt : t < z .tasks) where
     set-to : (q : Place) → Goes m t (setPlace m t q) q
     set-to q = (place-same m t q (in-places z m ok t lt), unfold setPlace in refl)
@@ -63,7 +58,7 @@ module _ (z : Sizes) (m : Memory) (t : ℕ) where
           x = fresh z m t a
 
           others : (f : Entry) → f ∈ entries z m t → f .address % z .records ≡ a % z .records → Beside z m ok t lt a → x .new .version ≡ f .new .version
-          others f k q (inl (e, j, s, v, w)) = w ∙ agreed-new z m t a ok lt e f j k (s ∙ sym q)
+          others f k q (inl (e, j, s, v, w)) = w ∙ agreed z m ok t lt e f j k (s ∙ sym q) .1
           others f k q (inr (no-one, w)) = absurd (no-one f k q)
 
           nobody : (OnRecord z m t a (λ v. Unit {0}) → ⊥) → Beside z m ok t lt a → x .new .version ≡ logical z m a .version
@@ -73,7 +68,8 @@ module _ (z : Sizes) (m : Memory) (t : ℕ) where
       entered-known : indexOf a (entries z m t) < place m t .count → Entered z m t a (entries z m t)
       entered-known k = record { known = λ _. refl; new = λ n. absurd (not-new z m t a ok lt k n) }
 
-      entered-new : place m t .count ≤ indexOf a (entries z m t) → place m t .count < limit z → overtaken z m t a ≡ false → Entered z m t a (run z (added z m t a) t (suc (place m t .count)))
+      entered-new : place m t .count ≤ indexOf a (entries z m t) → place m t .count < limit z → overtaken z m t a ≡ false
+          → Entered z m t a (run z (added z m t a) t (suc (place m t .count)))
       entered-new k room o =
           record {
             known = λ no-new. absurd (no-new (no-entry z m ok t lt a k));
@@ -96,7 +92,7 @@ module _ (z : Sizes) (m : Memory) (t : ℕ) where
     unfolding store
     stored with-it n e op c fits E =
         if-cases Answered (eqb (e .old .version) topVersion) _ _ (λ d. (λ x. absurd (omega (arith, x)), λ x. absurd (omega (arith, x)))) (λ d.
-        (λ x. absurd (omega (arith, x)), λ x. (ap (λ (q : Place). q .phase) here ∙ op, run z with-it t n, E, f, is-written (z .records) a v, all)))
+        (λ x. absurd (omega (arith, x)), λ x. (phase-of here ∙ op, run z with-it t n, E, f, is-written (z .records) a v, all)))
       where
         f : Entry → Entry
         f = written (z .records) a v
@@ -105,36 +101,36 @@ module _ (z : Sizes) (m : Memory) (t : ℕ) where
         m′ = rewrite z with-it t f n
 
         here : place m′ t ≡ place with-it t
-        here = unfold place in ap (λ (l : List (List ℕ)). placeOf (getD l t [])) (rewrite-places z with-it t f n)
+        here = place-from with-it m′ (rewrite-places z with-it t f n) t
 
         all : entries z m′ t ≡ map f (run z with-it t n)
-        all = ap (λ (k : ℕ). run z m′ t k) (ap (λ (q : Place). q .count) here ∙ sym c) ∙ rewrite-all z with-it t f n fits
+        all = ap (λ (k : ℕ). run z m′ t k) (count-of here ∙ sym c) ∙ rewrite-all z with-it t f n fits
 
 pub requests-leave : RequestsLeave ours
 unfolding call start abort commit wait read write
-requests-leave z m (ST t) = asked-cases z m t isIdle _ (Leaves z m (ST t)) (λ n k. none z m t n k) (λ ok lt c x. set-to z m t ok lt (bare 0 Open))
-requests-leave z m (CM t) = asked-cases z m t isOpen _ (Leaves z m (CM t)) (λ n k. none z m t n k) (λ ok lt c x. moves-to z m t ok lt (Taking Commit 0))
-requests-leave z m (AB t) = asked-cases z m t isOpen _ (Leaves z m (AB t)) (λ n k. none z m t n k) (λ ok lt c x. set-to z m t ok lt (bare 0 Idle))
-requests-leave z m (WT t) = asked-cases z m t isOpen _ (Leaves z m (WT t)) (λ n k. none z m t n k) (λ ok lt c.
+requests-leave z m (ST t) = asked-cases z m t isIdle _ (Leaves z m (ST t)) (no-refusal 0 refl) (λ ok lt c x. set-to z m t ok lt (bare 0 Open))
+requests-leave z m (CM t) = asked-cases z m t isOpen _ (Leaves z m (CM t)) (no-refusal 0 refl) (λ ok lt c x. moves-to z m t ok lt (Taking Commit 0))
+requests-leave z m (AB t) = asked-cases z m t isOpen _ (Leaves z m (AB t)) (no-refusal 0 refl) (λ ok lt c x. set-to z m t ok lt (bare 0 Idle))
+requests-leave z m (WT t) = asked-cases z m t isOpen _ (Leaves z m (WT t)) (no-refusal 0 refl) (λ ok lt c.
     if-cases (Leaves z m (WT t)) (eqb (place m t .count) 0) _ _ (λ d x. absurd (omega (arith, x))) (λ d x. moves-to z m t ok lt (Taking Sleep 0)))
 requests-leave z m (SP t) = tt
 requests-leave z m (RD t a) =
-    addressed-cases z m t a _ _ (Leaves z m (RD t a)) (λ n k. (none-9 z m t n k, none z m t n k))
+    addressed-cases z m t a _ _ (Leaves z m (RD t a)) (λ n k. (no-refusal 9 refl n k, no-refusal 0 refl n k))
     (λ ok lt op. (λ x. set-to z m t ok lt (bare 0 Idle), λ x. absurd (omega (arith, x))))
     (λ ok lt op w k. (λ x. absurd (omega (arith, x)), λ x. (op, entered-known z m t ok lt a k)))
     (λ ok lt op w k room o. (
       λ x. absurd (omega (arith, x)),
       λ x. (
-        ap (λ (q : Place). q .phase) (added-place z m ok t lt a) ∙ op,
+        phase-of (added-place z m ok t lt a) ∙ op,
         subst⁻¹ (Entered z m t a) (added-entries z m t ok lt a) (entered-new z m t ok lt a k room o),
       ),
     ))
 requests-leave z m (WR t a v) =
-    addressed-cases z m t a _ _ (Leaves z m (WR t a v)) (λ n k. (none-9 z m t n k, none z m t n k))
+    addressed-cases z m t a _ _ (Leaves z m (WR t a v)) (λ n k. (no-refusal 9 refl n k, no-refusal 0 refl n k))
     (λ ok lt op. (λ x. set-to z m t ok lt (bare 0 Idle), λ x. absurd (omega (arith, x))))
     (λ ok lt op w k. stored z m t a v m (place m t .count) (known z m t a) op refl (run-fits z m ok t lt) (entered-known z m t ok lt a k))
-    (λ ok lt op w k room o. stored z m t a v (added z m t a) (suc (place m t .count)) (fresh z m t a) (ap (λ (q : Place). q .phase) (added-place z m ok t lt a) ∙ op)
-    (sym (ap (λ (q : Place). q .count) (added-place z m ok t lt a))) (added-fits z m ok t lt a room) (entered-new z m t ok lt a k room o))
+    (λ ok lt op w k room o. stored z m t a v (added z m t a) (suc (place m t .count)) (fresh z m t a) (phase-of (added-place z m ok t lt a) ∙ op)
+    (sym (count-of (added-place z m ok t lt a))) (added-fits z m ok t lt a room) (entered-new z m t ok lt a k room o))
 
 pub opened-so : (z : Sizes) (v : ℕ) → Opened z v (opened z v)
 unfolding opened
@@ -143,20 +139,10 @@ opened-so z v =
       words = refl;
       records = refl;
       places = length-replicate (z .tasks) (rowOf (bare 0 Idle));
-      idle = λ t. unfold place in idle (z .tasks) t;
+      idle = opened-idle z v;
       entries = unfold rowOfEntry blank in refl;
     }
-  where
-    idle : (k i : ℕ) → placeOf (getD (replicate k (rowOf (bare 0 Idle))) i []) ≡ bare 0 Idle
-    idle zero i = unfold placeOf phaseOf in refl
-    idle (suc k) zero = place-back (bare 0 Idle)
-    idle (suc k) (suc i) = idle k i
 
 pub opening-leaves : OpeningLeaves ours
-unfolding openBoard
 opening-leaves z v m =
-    if-cases P (not (sizesOk z && within 1 topVersion v)) _ _ (λ c x. absurd (omega (arith, x))) (λ c.
-    if-cases P (not (lengthsOk z m)) _ _ (λ d x. absurd (omega (arith, x))) (λ d x. opened-so z v))
-  where
-    P : Reply → Type 0
-    P r = r .number ≡ 0 → Opened z v (r .after)
+    opening-cases z v m (λ r. r .number ≡ 0 → Opened z v (r .after)) (no-refusal 0 refl 2 refl) (no-refusal 0 refl 1 refl) (λ c x. opened-so z v)

@@ -1,14 +1,16 @@
--- A task whose Commit was just answered takes up to a record that another task owns, meets it, and lets go: all is as before, but for the one met.
+-- A task whose Commit was just answered takes up to a record that another task owns, meets it, and lets go: all is as before, but
+-- for the one met.
 use Prim.Native.Nat.{ℕ, suc, _+_, _%_, _<_}
 use mathlib.Core.Path.{_≡_, refl, sym, ap, _∙_, subst}
 use mathlib.Core.Logic.{inl, inr, _≢_, ⊎-elim}
 use mathlib.Core.Bool.{true}
 use native.Mathlib.Omega.{arith}
 use Rattle.memory.specs.{Sizes, Commit, Failed, Idle, Taking, Place, Version, Owner, Entry, Memory, place, entry, held, bare, moved, sound, SP, call, phase, struck, Clash}
-use Rattle.memory.proofs.Codes.{not-owner}
+use Rattle.memory.proofs.Codes.{not-owner, count-of, phase-of}
+use Rattle.memory.proofs.Stores.{held-from, entry-from}
 use Rattle.memory.proofs.Facts.{owner-entry}
 use Rattle.memory.proofs.SoundLasts.{call-sound}
-use Rattle.memory.proofs.Tables.{count-of, phase-of, held-from, entry-from, words-back, records-back}
+use Rattle.memory.proofs.Tables.{words-back, records-back}
 use Rattle.memory.proofs.Runs.{Reaches, goes-on, reaches}
 use Rattle.memory.proofs.OneStep.{meets}
 use Rattle.memory.proofs.LetGo.{LetGo, lets-go, freed, kept}

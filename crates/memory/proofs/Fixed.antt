@@ -4,13 +4,14 @@ use mathlib.Core.Path.{_≡_, refl, sym, _∙_, subst}
 use mathlib.Core.Logic.{_⊎_, inl, inr, _≢_, ⊎-elim}
 use mathlib.Core.List.{List, [], _∷_, map}
 use mathlib.Core.Bool.{true, false}
-use Rattle.memory.specs.{Sizes, Committed, Failed, Woken, Idle, Open, Asleep, Releasing, Place, Entry, Memory, place, bare, entries, Reply, looked, Call, ST, CM, AB, WT, SP, RD, WR, _∈_, refusal, KeepsOthers, Narrow, Row, Given, phase, New, refusals, unusable, rowsOf, Valued, Machine, ours, StoredFrom, Stores, Promised, OneMachine}
+use Rattle.memory.specs.{Sizes, Idle, Open, Place, Entry, Memory, place, bare, entries, Reply, looked, Call, ST, CM, AB, WT, SP, RD, WR, _∈_, refusal, KeepsOthers, Narrow, Row, Given, phase, New, refusals, unusable, rowsOf, Valued, Machine, ours, StoredFrom, Stores, Promised, OneMachine}
 use Rattle.memory.specs.Effects.{Goes, Leaves}
 use Rattle.memory.specs.Fixed.Claim.{call-answers, opening-answers, look-answers, refusals-keep, refused-openings-keep, calls-are-narrow, requests-leave, entries-stored, steps-leave, clashes-end, sound-lasts, opening-leaves, opening-is-sound}
+use Rattle.memory.proofs.StepAnswers.{ending}
 use Rattle.memory.proofs.Tools.{same?}
 use Rattle.memory.proofs.Find.{find?}
 use Rattle.memory.proofs.Answers.{one-number}
-use Rattle.memory.proofs.Alike.{same-memory, same-places, same-goes, same-stored, one-entered, one-written}
+use Rattle.memory.proofs.Alike.{same-memory, same-places, same-goes, same-stored, entered-same, one-written}
 use Rattle.memory.proofs.AlikeReplies.{past, refusing, only-0, Allowed, allowed, others-give, same-reply}
 use Rattle.memory.proofs.AlikeSteps.{same-step}
 
@@ -66,7 +67,7 @@ module _ (M N : Machine) (P : Promised M) (Q : Promised N) (z : Sizes) (m : Memo
       (past 6 refl b (past 5 refl b w .1) .1))
 
   read-value : (t a : ℕ) → r (RD t a) .number ≡ s (RD t a) .number → r (RD t a) .value ≡ s (RD t a) .value
-  read-value t a q = go (same? (r (RD t a) .number) 0) (find? a (entries z m t))
+  read-value t a q = go (same? (r (RD t a) .number) 0) (find? (λ e. e .address) a (entries z m t))
     where
       x : Valued z m (RD t a) (r (RD t a))
       x = P call-answers z m (RD t a) .1
@@ -98,9 +99,7 @@ module _ (M N : Machine) (P : Promised M) (Q : Promised N) (z : Sizes) (m : Memo
       D = (phase m t ≡ Idle) ⊎ (phase m t ≡ Open)
 
       rows : Memory → List Row
-      rows k =
-          let n = place m t .count in
-          (20, phase k t ≡ Asleep) ∷ (21, phase m t ≡ Releasing Committed n) ∷ (22, phase m t ≡ Releasing Failed n) ∷ (23, phase m t ≡ Releasing Woken n) ∷ []
+      rows k = ending (place m t .count) (phase m t) (phase k t)
 
       after : Allowed z m t D → m₁ ≡ m₂
       after (ok, lt, d) =
@@ -117,13 +116,13 @@ module _ (M N : Machine) (P : Promised M) (Q : Promised N) (z : Sizes) (m : Memo
       enters (RD t a) t a [] (place m t .count) refl (λ K R. let (x, k, L, S) = told (RD t a) K R in (x .0, k, L .0, S)) (read-value t a) (λ n n′.
       let (o, E) = P requests-leave z m (RD t a) .1 n in
       let (p, E′) = Q requests-leave z m (RD t a) .1 n′ in
-      (o, p, one-entered z m t a _ _ E E′))
+      (o, p, entered-same z t a m m refl refl _ _ E′ E))
   one-call (WR t a v) =
       enters (WR t a v) t a ((8, _) ∷ []) 0 refl (λ K R. let (x, k, L, S) = told (WR t a v) K R in (x .0, k, L .0, S))
       (λ _. P call-answers z m (WR t a v) .1 ∙ sym (Q call-answers z m (WR t a v) .1)) (λ n n′.
       let (o, es, E, f, F, x) = P requests-leave z m (WR t a v) .1 n in
       let (p, es′, E′, f′, F′, y) = Q requests-leave z m (WR t a v) .1 n′ in
-      (o, p, x ∙ (λ i. map (λ e. one-written (z .records) a v e (f e) (f′ e) (F e) (F′ e) i) (one-entered z m t a es es′ E E′ i)) ∙ sym y))
+      (o, p, x ∙ (λ i. map (λ e. one-written (z .records) a v e (f e) (f′ e) (F e) (F′ e) i) (entered-same z t a m m refl refl es′ es E′ E i)) ∙ sym y))
 
   -- Opening and the look-up --------------------------------------------------------------------------------------------------------------
 

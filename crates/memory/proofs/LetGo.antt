@@ -6,9 +6,10 @@ use mathlib.Core.Bool.{true}
 use native.Mathlib.Omega.{arith}
 use native.Mathlib.Nat.{mod-lt}
 use Rattle.memory.specs.{Sizes, Outcome, Committed, Failed, Woken, Releasing, Idle, Place, Held, Version, Owner, Entry, Memory, steps, place, entry, held, bare, sound, endNumber, SP, call, phase, final, TheWokenEnds, ours}
-use Rattle.memory.proofs.Facts.{some-record, agree}
+use Rattle.memory.proofs.Codes.{phase-of}
+use Rattle.memory.proofs.Facts.{some-record, agree, owns-none}
 use Rattle.memory.proofs.Fresh.{in-entries}
-use Rattle.memory.proofs.Tables.{is-owner?, phase-of, owns-none, words-back}
+use Rattle.memory.proofs.Tables.{is-owner?, words-back}
 use Rattle.memory.proofs.Runs.{Reaches, arrives, goes-on}
 use Rattle.memory.proofs.OneStep.{Stands, Since, sets-out, since-same, since-but, frees, passes, ends}
 

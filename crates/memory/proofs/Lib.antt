@@ -31,8 +31,8 @@ pub mod GoodReads
 pub mod GoodSteps
 pub mod Theorem
 pub mod Serial
-pub mod Spoken
 pub mod Listed
+pub mod Spoken
 -- how long a commit takes
 pub mod Turns
 pub mod Ends

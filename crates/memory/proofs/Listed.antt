@@ -3,18 +3,18 @@ use Prim.Native.Nat.{ℕ, _<_}
 use mathlib.Core.Path.{_≡_, refl, sym, ap, _∙_, subst, subst⁻¹}
 use mathlib.Core.Logic.{_⊎_, inl, inr, _≢_}
 use mathlib.Core.List.{List, [], _∷_, List·Memᴰ·head, List·Memᴰ·tail}
-use mathlib.Core.Bool.{Bool, true, false, not, _&&_, false≢true}
-use lib.Dec.{eqb, leb}
-use lib.ListN.{getD}
+use mathlib.Core.Bool.{Bool, true, false, false≢true}
+use lib.Dec.{eqb}
 use native.Mathlib.Omega.{arith}
-use borrow.Author.Tests.{leb-true, ne-eqb}
-use Rattle.memory.specs.{if_then_else_, Sizes, Commit, Sleep, Committed, Failed, Woken, Phase, Idle, Open, Taking, Asleep, Writing, Releasing, Place, Entry, Memory, isIdle, isOpen, steps, wakes, kindOf, whichOf, positionOf, committed, place, placeOf, bare, setPlace, move, topVersion, sound, sizesOk, lengthsOk, within, Reply, reply, refused, opened, openBoard, start, abort, commit, wait, fresh, known, added, written, rewrite, read, store, write, Call, ST, CM, AB, WT, SP, RD, WR, call, asker, _∈_, Op, Notes, nothing, logged, decides, stepped, noted, Event, request, lookup, opening, listed, Scene, scene, begun, next, ran, reached, refusal, Clashed, phase, Opened, CommittedIsListed}
-use Rattle.memory.proofs.Tools.{same?, if-cases, upd-other, and-0}
-use Rattle.memory.proofs.Cases.{asked-cases, addressed-cases}
-use Rattle.memory.proofs.Stores.{place-same, rewrite-places}
+use Rattle.memory.specs.{if_then_else_, Sizes, Commit, Sleep, Committed, Failed, Woken, Phase, Idle, Open, Taking, Asleep, Releasing, Place, Entry, Memory, isIdle, isOpen, steps, wakes, kindOf, whichOf, positionOf, committed, place, bare, setPlace, move, topVersion, sound, Reply, reply, refused, opened, openBoard, start, abort, commit, wait, fresh, known, added, written, rewrite, read, store, write, Call, ST, CM, AB, WT, SP, RD, WR, call, asker, _∈_, Op, Notes, nothing, logged, decides, stepped, noted, Event, request, lookup, opening, listed, Scene, scene, begun, next, ran, reached, refusal, Clashed, phase, Opened, CommittedIsListed}
+use Rattle.memory.proofs.Tools.{same?, if-cases, upd-other}
+use Rattle.memory.proofs.Codes.{phase-of}
+use Rattle.memory.proofs.Cases.{no-refusal, opening-cases, asked-cases, addressed-cases}
+use Rattle.memory.proofs.Stores.{place-same, rewrite-places, place-from}
 use Rattle.memory.proofs.Facts.{in-places}
 use Rattle.memory.proofs.Fresh.{added-place}
 use Rattle.memory.proofs.Narrow.{others-place}
+use Rattle.memory.proofs.Good.{never-self, refused-notes}
 use Rattle.memory.proofs.Serial.{Fine, always}
 use Rattle.memory.proofs.Went.{Does, takes, has, late, meets, chooses, writes, wrote-all, gives, passes, Went, moves, rests, ends, step-goes, moved-to, lands, step-cases}
 use Rattle.memory.proofs.Effects.{opened-so, opening-leaves}
@@ -63,7 +63,7 @@ module _ (G : Notes) where
   abbrev adding : ℕ → Notes
   adding t = record { logs = G .logs; past = G .logs t ∷ G .past }
 
-  same-past : (b : Bool) (t : ℕ) (l : List Op) → (if b then logged t l G else G) .past ≡ G .past
+  pub same-past : (b : Bool) (t : ℕ) (l : List Op) → (if b then logged t l G else G) .past ≡ G .past
   same-past true t l = refl
   same-past false t l = refl
 
@@ -76,17 +76,6 @@ module _ (G : Notes) where
 
   step-past : (t : ℕ) (p q : Phase) {l : List Op} → l ∈ G .past → l ∈ stepped t p q G .past
   step-past t p q {l} k = if-cases (λ (H : Notes). l ∈ H .past) (decides p q) _ _ (λ d. List·Memᴰ·tail k) (λ d. k)
-
-  unnoted : (n : ℕ) → refusal n ≡ true → (G′ : Notes) → (if eqb n 0 then G′ else G) ≡ G
-  unnoted n k G′ = ap (λ (b : Bool). if b then G′ else G) (ne-eqb n 0 (λ e. omega (arith, leb-true 1 n (and-0 (leb 1 n) (leb n 8) k))))
-
-  still : (t : ℕ) (p : Phase) → stepped t p p G ≡ G
-  still t Idle = refl
-  still t Open = refl
-  still t (Taking g i) = refl
-  still t Asleep = refl
-  still t (Writing i) = refl
-  still t (Releasing o i) = refl
 
   module _ (z : Sizes) (m : Memory) where
     -- another task's log, and what was listed
@@ -108,16 +97,6 @@ module _ (G : Notes) where
     listed-on (RD t a) r {l} k = subst⁻¹ (λ (h : List (List Op)). l ∈ h) (same-past (eqb (r .number) 0) t _) k
     listed-on (WR t a v) r {l} k = subst⁻¹ (λ (h : List (List Op)). l ∈ h) (same-past (eqb (r .number) 0) t _) k
 
-    -- a refusal is not noted
-    refusal-noted : (c : Call) (k : ℕ) → refusal k ≡ true → noted z m (refused k m) c G ≡ G
-    refusal-noted (ST t) k d = unnoted k d _
-    refusal-noted (CM t) k d = refl
-    refusal-noted (AB t) k d = refl
-    refusal-noted (WT t) k d = refl
-    refusal-noted (SP t) k d = still t (phase m t)
-    refusal-noted (RD t a) k d = unnoted k d _
-    refusal-noted (WR t a v) k d = unnoted k d _
-
     -- nobody else makes a task committed
     others-phase : (c : Call) (u : ℕ) → u ≢ asker c → committed (phase (call z m c .after) u) ≡ true → committed (phase m u) ≡ true
     others-phase c u ne h = go (others-place z m c u ne)
@@ -136,7 +115,7 @@ module _ (G : Notes) where
       Mine c r = committed (phase (r .after) t) ≡ true → noted z m r c G .logs t ∈ noted z m r c G .past
 
       as-was : (c : Call) (k : ℕ) → refusal k ≡ true → Mine c (refused k m)
-      as-was c k d h = subst⁻¹ (λ (H : Notes). H .logs t ∈ H .past) (refusal-noted c k d) (I t h)
+      as-was c k d h = subst⁻¹ (λ (H : Notes). H .logs t ∈ H .past) (refused-notes z m G c k d) (I t h)
 
       uncommitted : (c : Call) (r : Reply) (q : Place) → place (r .after) t ≡ q → committed (q .phase) ≡ false → Mine c r
       uncommitted c r q e n h = absurd (false≢true (sym n ∙ sym (ap (λ (x : Place). committed (x .phase)) e) ∙ h))
@@ -149,8 +128,8 @@ module _ (G : Notes) where
       unfolding store
       stored c with-it a v n e op =
           let f = written (z .records) a v in
-          let here : place (rewrite z with-it t f n) t ≡ place with-it t = unfold place in ap (λ (l : List (List ℕ)). placeOf (getD l t [])) (rewrite-places z with-it t f n) in
-          if-cases (Mine c) (eqb (e .old .version) topVersion) _ _ (λ d. as-was c 8 refl) (λ d. uncommitted c (reply 0 0 (rewrite z with-it t f n)) (place with-it t) here (ap committed op))
+          if-cases (Mine c) (eqb (e .old .version) topVersion) _ _ (λ d. as-was c 8 refl) (λ d.
+          uncommitted c (reply 0 0 (rewrite z with-it t f n)) (place with-it t) (place-from with-it _ (rewrite-places z with-it t f n) t) (ap committed op))
 
     mine : (I : In m G) (c : Call) → Mine I (asker c) c (call z m c)
     unfolding call start abort commit wait read write
@@ -173,7 +152,7 @@ module _ (G : Notes) where
         addressed-cases z m t a _ _ (Mine I t (WR t a v)) (as-was I t (WR t a v))
         (λ ok lt op. uncommitted I t (WR t a v) (reply 9 0 (setPlace m t (bare 0 Idle))) (bare 0 Idle) (place-same m t _ (in-places z m ok t lt)) refl)
         (λ ok lt op w k. stored I t (WR t a v) m a v _ (known z m t a) op)
-        (λ ok lt op w k room o. stored I t (WR t a v) (added z m t a) a v _ (fresh z m t a) (ap (λ (q : Place). q .phase) (added-place z m ok t lt a) ∙ op))
+        (λ ok lt op w k room o. stored I t (WR t a v) (added z m t a) a v _ (fresh z m t a) (phase-of (added-place z m ok t lt a) ∙ op))
 
     call-in : In m G → (c : Call) → In (call z m c .after) (noted z m (call z m c) c G)
     call-in I c u h = go (same? u (asker c))
@@ -191,15 +170,10 @@ opened-in : (z : Sizes) (v : ℕ) (m : Memory) → Opened z v m → In m nothing
 opened-in z v m O t h = absurd (false≢true (sym (ap (λ (q : Place). committed (q .phase)) (O .idle t)) ∙ h))
 
 next-in : (s : Scene) → In (s .memory) (s .notes) → (e : Event) → In (next s e .memory) (next s e .notes)
-unfolding openBoard
 next-in s I (request c) = call-in (s .notes) (s .sizes) (s .memory) I c
 next-in s I (lookup a) = I
 next-in s I (opening z v) =
-    if-cases P (not (sizesOk z && within 1 topVersion v)) _ _ (λ c. I) (λ c.
-    if-cases P (not (lengthsOk z (s .memory))) _ _ (λ d. I) (λ d. opened-in z v (opened z v) (opened-so z v)))
-  where
-    P : Reply → Type 0
-    P r = In (begun s z v r .memory) (begun s z v r .notes)
+    opening-cases z v (s .memory) (λ r. In (begun s z v r .memory) (begun s z v r .notes)) I I (λ c. opened-in z v (opened z v) (opened-so z v))
 
 ran-in : (s : Scene) → In (s .memory) (s .notes) → (es : List Event) → In (ran s es .memory) (ran s es .notes)
 ran-in s I [] = I
@@ -213,7 +187,7 @@ module _ (z : Sizes) (m : Memory) (G : Notes) where
 
   answers-21 : (t : ℕ) → call z m (SP t) .number ≡ 21 → committed (phase m t) ≡ true
   answers-21 t =
-      step-cases z m t (λ r. r .number ≡ 21 → committed (phase m t) ≡ true) (λ k d e. absurd (false≢true (ap refusal (sym e) ∙ d))) (λ ok lt r w. ends-committed z m t w)
+      step-cases z m t (λ r. r .number ≡ 21 → committed (phase m t) ≡ true) (no-refusal 21 refl) (λ ok lt r w. ends-committed z m t w)
 
   deciding : sound z m ≡ true → (t : ℕ) → t < z .tasks → phase m t ≡ Taking Commit (n t) → noted z m (call z m (SP t)) (SP t) G .past ≡ G .logs t ∷ G .past
   deciding ok t lt q = go (went-adds z m t ok lt refl (step-goes z m t ok lt (ap steps q)))
@@ -225,7 +199,7 @@ module _ (z : Sizes) (m : Memory) (G : Notes) where
   -- a step that is not the deciding one of a commit
   step-unlisted : (t : ℕ) → phase m t ≢ Taking Commit (n t) → noted z m (call z m (SP t)) (SP t) G .past ≡ G .past
   step-unlisted t ne =
-      step-cases z m t (λ r. noted z m r (SP t) G .past ≡ G .past) (λ k d. ap (λ (H : Notes). H .past) (still G t (phase m t))) (λ ok lt r w.
+      step-cases z m t (λ r. noted z m r (SP t) G .past ≡ G .past) (λ k d. ap (λ (H : Notes). H .past) (never-self G t (phase m t))) (λ ok lt r w.
       go r (went-adds z m t ok lt refl w))
     where
       go : (r : Reply) → Adds z m t (phase m t) (phase (r .after) t) → noted z m r (SP t) G .past ≡ G .past
@@ -245,7 +219,9 @@ pub committed-is-listed : CommittedIsListed listed
 committed-is-listed z v m o es =
     let s = reached z v m es in
     record {
-      committed = λ t e. ran-in (scene z v (openBoard z v m .after) nothing) (opened-in z v _ (opening-leaves z v m o)) es t (answers-21 (s .sizes) (s .memory) (s .notes) t e);
+      committed = λ t e.
+          ran-in (scene z v (openBoard z v m .after) nothing) (opened-in z v _ (opening-leaves z v m o)) es t
+          (answers-21 (s .sizes) (s .memory) (s .notes) t e);
       decided = λ t lt q. deciding (s .sizes) (s .memory) (s .notes) (always (λ s. Fine s) (λ s f. f) z v m o es .0) t lt q;
       otherwise = λ c no. unlisting (s .sizes) (s .memory) (s .notes) c no;
     }

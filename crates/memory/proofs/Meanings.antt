@@ -1,22 +1,22 @@
 -- What the other claims lean on: the numbers, the rows, a sound table, the logical value and version.
 use Prim.Native.Nat.{ℕ, suc, _%_, _<_, _≤_}
 use mathlib.Core.Path.{_≡_, refl, sym, ap, _∙_, subst}
-use mathlib.Core.Logic.{_⊎_, inl, inr, _≢_}
+use mathlib.Core.Logic.{_⊎_, inl, inr, _≢_, ⊎-elim}
 use mathlib.Core.List.{List}
 use mathlib.Core.Bool.{Bool, true, false, _||_, true≢false}
 use lib.Dec.{eqb, ltb}
 use lib.ListN.{length, getD}
 use native.Mathlib.Omega.{arith}
 use native.Mathlib.Nat.{mod-lt}
-use borrow.Author.Tests.{ltb-true, lt-ltb, leb-true, le-leb, eqb-true, eq-eqb}
-use Rattle.memory.specs.{if_then_else_, Sizes, Goal, Outcome, Committed, Failed, Woken, Phase, Idle, Open, Taking, Asleep, Writing, Releasing, Held, Version, Owner, Seen, Entry, Memory, positionOf, isIdle, steps, committed, rowOf, place, placeOf, entry, entries, held, heldOf, numberOf, limit, topVersion, index, indexOf, indexOn, blank, shows, ownedAt, logicalAt, logical, sound, sizesOk, within, entryOk, heldOk, taskOk, countsFrom, _∈_, phase, New, rowOfEntry, runStart, Figures, Layout, SoundEntry, SoundTask, SoundOwner, SoundTable, SoundMeans, OneTest, shown, LogicalAt, LogicalMeans, OneSight}
-use Rattle.memory.proofs.Tools.{both, and-0, and-1, and-make, or-left-make, or-right-make, below-make}
+use borrow.Author.Tests.{ltb-true, lt-ltb, eqb-true, eq-eqb}
+use Rattle.memory.specs.{if_then_else_, Sizes, Goal, Outcome, Committed, Failed, Woken, Phase, Idle, Open, Taking, Asleep, Writing, Releasing, Held, Version, Owner, Seen, Entry, Memory, positionOf, isIdle, steps, committed, rowOf, place, placeOf, entry, entries, held, heldOf, numberOf, limit, index, indexOf, indexOn, blank, shows, ownedAt, logicalAt, logical, sound, sizesOk, entryOk, heldOk, taskOk, countsFrom, _∈_, phase, New, rowOfEntry, runStart, Figures, Layout, SoundEntry, SoundTask, SoundOwner, SoundTable, SoundMeans, OneTest, shown, LogicalAt, LogicalMeans, OneSight}
+use Rattle.memory.proofs.Tools.{both, and-0, and-1, and-make, or-left-make, or-right-make, below-make, within-of, within-make}
 use Rattle.memory.proofs.Codes.{place-back, entry-back, version-back, owner-back, is-idle}
 use Rattle.memory.proofs.Facts.{sizes, lengths, record-ok, some-record, owner-task}
 use Rattle.memory.proofs.Lasts.{Task, On, task-of, task-make, owner-of, owner-make}
 use Rattle.memory.proofs.Find.{find?, index-found, index-some}
-use Rattle.memory.proofs.Fresh.{entry-in}
-use Rattle.memory.proofs.Answers.{agreed, agreed-new, one-entry}
+use Rattle.memory.proofs.Fresh.{entry-in, agreed, one-entry}
+use Rattle.memory.proofs.Went.{not-steps}
 use Rattle.memory.proofs.OpenAnswers.{fits, fits-in}
 
 -- The numbers and the rows ------------------------------------------------------------------------------------------------------------------
@@ -66,22 +66,23 @@ raised-make a b c (inl e) = or-left-make (eqb a c) (eq-eqb a b e)
 raised-make a b c (inr e) = or-right-make (eqb a b) (eq-eqb a c e)
 
 entry-of : (z : Sizes) (e : Entry) → entryOk z e ≡ true → SoundEntry z e
-unfolding entryOk within
+unfolding entryOk
 entry-of z e s =
     record {
       address = ltb-true _ _ (search (and-0, and-1));
-      old = (leb-true _ _ (search (and-0, and-1)), leb-true _ _ (search (and-0, and-1)));
-      new = (leb-true _ _ (search (and-0, and-1)), leb-true _ _ (search (and-0, and-1)));
+      old = within-of (search (and-0, and-1));
+      new = within-of (search (and-0, and-1));
       raised = raised-of (e .new .version) (e .old .version) (suc (e .old .version)) (search (and-0, and-1));
     }
 
 entry-make : (z : Sizes) (e : Entry) → SoundEntry z e → entryOk z e ≡ true
-unfolding entryOk within
+unfolding entryOk
 entry-make z e E =
-    and-make (and-make (and-make (lt-ltb _ _ (E .address)) (and-make (le-leb _ _ (E .old .0)) (le-leb _ _ (E .old .1)))) (and-make (le-leb _ _ (E .new .0)) (le-leb _ _ (E .new .1))))
+    and-make (and-make (and-make (lt-ltb _ _ (E .address)) (within-make (E .old))) (within-make (E .new)))
     (raised-make (e .new .version) (e .old .version) (suc (e .old .version)) (E .raised))
 
-at-most : (p : Phase) (n : ℕ) → ((g : Goal) (i : ℕ) → p ≡ Taking g i → i ≤ n) → ((i : ℕ) → p ≡ Writing i → i ≤ n) → ((o : Outcome) (i : ℕ) → p ≡ Releasing o i → i ≤ n) → positionOf p ≤ n
+at-most : (p : Phase) (n : ℕ) → ((g : Goal) (i : ℕ) → p ≡ Taking g i → i ≤ n)
+    → ((i : ℕ) → p ≡ Writing i → i ≤ n) → ((o : Outcome) (i : ℕ) → p ≡ Releasing o i → i ≤ n) → positionOf p ≤ n
 at-most Idle n f g h = omega arith
 at-most Open n f g h = omega arith
 at-most (Taking b i) n f g h = f b i refl
@@ -126,12 +127,7 @@ module _ (z : Sizes) (m : Memory) where
   counts-make (Releasing o i) j h = h o i refl
 
   busy-make : (p : Phase) → p ≢ Idle → p ≢ Open → steps p ≡ true
-  busy-make Idle f g = absurd (f refl)
-  busy-make Open f g = absurd (g refl)
-  busy-make (Taking b i) f g = refl
-  busy-make Asleep f g = refl
-  busy-make (Writing i) f g = refl
-  busy-make (Releasing o i) f g = refl
+  busy-make p f g = ⊎-elim (λ s. s) (λ s. absurd (⊎-elim f g (not-steps p s))) (both (steps p))
 
   owner-told : (r t : ℕ) → t < z .tasks → On (z .records) r (place m t) (entry z m t) → SoundOwner z m r t
   owner-told r t lt o =
@@ -144,32 +140,30 @@ module _ (z : Sizes) (m : Memory) where
   pub means : sound z m ≡ true → SoundTable z m
   means ok =
       record {
-        words = unfold sizesOk within in let s = sizes z m ok in (leb-true _ _ (search (and-0, and-1)), leb-true _ _ (search (and-0, and-1)));
-        records = unfold sizesOk within in let s = sizes z m ok in (leb-true _ _ (search (and-0, and-1)), leb-true _ _ (search (and-0, and-1)));
-        tasks = unfold sizesOk within in let s = sizes z m ok in (leb-true _ _ (search (and-0, and-1)), leb-true _ _ (search and-1));
+        words = unfold sizesOk in let s = sizes z m ok in within-of (search (and-0, and-1));
+        records = unfold sizesOk in let s = sizes z m ok in within-of (search (and-0, and-1));
+        tasks = unfold sizesOk in let s = sizes z m ok in within-of (search (and-0, and-1));
         lengths = fits z m (lengths z m ok);
         each-task = λ t h. told t (task-of z m ok t h);
-        versions = λ r v h q. range r v h q;
+        versions = λ r v h q. unfold heldOk in within-of (subst (λ (k : Held). heldOk z m r k ≡ true) q (record-ok z m ok r h));
         owners = λ r t h q. owner-told r t (owner-task z m ok r t h q) (owner-of z m ok r t h q);
       }
-    where
-      range : (r v : ℕ) → r < z .records → held m r ≡ Version v → (1 ≤ v) × (v ≤ topVersion)
-      range r v h q = unfold heldOk within in let s = subst (λ (k : Held). heldOk z m r k ≡ true) q (record-ok z m ok r h) in (leb-true _ _ (search and-0), leb-true _ _ (search (and-0, and-1)))
 
   pub makes : SoundTable z m → sound z m ≡ true
-  unfolding sound sizesOk within
+  unfolding sound sizesOk
   makes S =
       and-make (and-make (and-make
-      (and-make (and-make (and-make (le-leb _ _ (S .words .0)) (le-leb _ _ (S .words .1))) (and-make (le-leb _ _ (S .records .0)) (le-leb _ _ (S .records .1)))) (and-make (le-leb _ _ (S .tasks .0)) (le-leb _ _ (S .tasks .1))))
+      (and-make (and-make (within-make (S .words)) (within-make (S .records))) (within-make (S .tasks)))
       (fits-in z m (S .lengths)))
       (below-make (z .tasks) (λ t. taskOk z m t) (λ t h. task-make z m t (tested t (S .each-task t h)))))
       (below-make (z .records) (λ r. heldOk z m r (held m r)) (λ r h. holds r h (held m r) refl))
     where
       holds : (r : ℕ) → r < z .records → (k : Held) → held m r ≡ k → heldOk z m r (held m r) ≡ true
-      holds r h (Version v) q = ap (heldOk z m r) q ∙ (unfold heldOk within in and-make (le-leb _ _ (S .versions r v h q .0)) (le-leb _ _ (S .versions r v h q .1)))
+      holds r h (Version v) q = ap (heldOk z m r) q ∙ (unfold heldOk in within-make (S .versions r v h q))
       holds r h (Owner t) q =
           let o = S .owners r t h q in
-          owner-make z m r t (o .task) q (busy-make (phase m t) (o .busy .0) (o .busy .1), o .has .0, o .has .1, counts-make (phase m t) (o .has .0) (o .has .3), o .has .2)
+          owner-make z m r t (o .task) q
+          (busy-make (phase m t) (o .busy .0) (o .busy .1), o .has .0, o .has .1, counts-make (phase m t) (o .has .0) (o .has .3), o .has .2)
 
 pub sound-means : SoundMeans sound
 sound-means z m = (means z m, makes z m)
@@ -194,9 +188,9 @@ shown-is (Releasing Committed i) e = refl
 shown-is (Releasing Failed i) e = refl
 shown-is (Releasing Woken i) e = refl
 
-shows-version : (b : Bool) (e f : Entry) → e .old .version ≡ f .old .version → e .new .version ≡ f .new .version → shows b e .version ≡ shows b f .version
-shows-version true e f p q = q
-shows-version false e f p q = p
+shows-version : (b : Bool) (e f : Entry) → (e .old .version ≡ f .old .version) × (e .new .version ≡ f .new .version) → shows b e .version ≡ shows b f .version
+shows-version true e f s = s .1
+shows-version false e f s = s .0
 
 module _ (z : Sizes) (m : Memory) (ok : sound z m ≡ true) (a : ℕ) where
   abbrev word : ℕ
@@ -218,29 +212,34 @@ module _ (z : Sizes) (m : Memory) (ok : sound z m ≡ true) (a : ℕ) where
     on-r : Entry → Bool
     on-r e = eqb (e .address % z .records) (a % z .records)
 
+    -- what is seen, by whether there is an entry for the address
+    sight : Bool → Seen
+    sight b = if b then shows done (getD es (index for-a es) blank) else record { value = word; version = shows done (getD es (index on-r es) blank) .version }
+
     owned : logical z m a ≡ ownedAt (z .records) done es a word
     unfolding logical logicalAt
     owned = ap (logicalAt z m a) q
 
     with-entry : (e : Entry) → e ∈ es → e .address ≡ a → ownedAt (z .records) done es a word ≡ shown (phase m t) e
-    unfolding ownedAt indexOf for-a
+    unfolding ownedAt indexOf indexOn for-a on-r sight
     with-entry e k s =
         let i : index for-a es < length es = index-some for-a es e k (eq-eqb _ _ s) in
         let f = index-found for-a es i in
-        ap (λ (b : Bool). if b then shows done (getD es (index for-a es) blank) else record { value = word; version = shows done (getD es (indexOn (z .records) (a % z .records) es) blank) .version }) (lt-ltb _ _ i)
-        ∙ ap (shows done) (one-entry z m t a ok lt (getD es (index for-a es) blank) e (f .0) k (eqb-true _ _ (f .1) ∙ sym s))
+        ap sight (lt-ltb _ _ i)
+        ∙ ap (shows done) (one-entry z m ok t lt (getD es (index for-a es) blank) e (f .0) k (eqb-true _ _ (f .1) ∙ sym s))
         ∙ shown-is (phase m t) e
 
     without : New z m t a → (e : Entry) → e ∈ es → e .address % z .records ≡ a % z .records
         → ownedAt (z .records) done es a word ≡ record { value = word; version = shown (phase m t) e .version }
-    unfolding ownedAt indexOf indexOn for-a on-r
+    unfolding ownedAt indexOf indexOn for-a on-r sight
     without new e k s =
         let i : index on-r es < length es = index-some on-r es e k (eq-eqb _ _ s) in
         let f = index-found on-r es i in
         let g : Entry = getD es (index on-r es) blank in
         let c : g .address % z .records ≡ e .address % z .records = eqb-true _ _ (f .1) ∙ sym s in
-        ap (λ (b : Bool). if b then shows done (getD es (index for-a es) blank) else record { value = word; version = shows done (getD es (index on-r es) blank) .version }) (absent (both (ltb (index for-a es) (length es))))
-        ∙ ap (λ (v : ℕ). record { value = word; version = v }) (shows-version done g e (agreed z m t a ok lt g e (f .0) k c) (agreed-new z m t a ok lt g e (f .0) k c) ∙ ap (λ (x : Seen). x .version) (shown-is (phase m t) e))
+        ap sight (absent (both (ltb (index for-a es) (length es))))
+        ∙ ap (λ (v : ℕ). record { value = word; version = v })
+        (shows-version done g e (agreed z m ok t lt g e (f .0) k c) ∙ ap (λ (x : Seen). x .version) (shown-is (phase m t) e))
       where
         absent : (ltb (index for-a es) (length es) ≡ true) ⊎ (ltb (index for-a es) (length es) ≡ false) → ltb (index for-a es) (length es) ≡ false
         absent (inl d) = let f = index-found for-a es (ltb-true _ _ d) in absurd (new (getD es (index for-a es) blank) (f .0) (eqb-true _ _ (f .1)))
@@ -270,7 +269,7 @@ module _ (z : Sizes) (m : Memory) (ok : sound z m ≡ true) (a : ℕ) where
 
       go : (h : Held) → held m r ≡ h → s ≡ u
       go (Version v) q = S .free v q ∙ sym (U .free v q)
-      go (Owner t) q = owner t q (means z m ok .owners r t (mod-lt a (some-record z m ok)) q) (find? a (entries z m t))
+      go (Owner t) q = owner t q (means z m ok .owners r t (mod-lt a (some-record z m ok)) q) (find? (λ e. e .address) a (entries z m t))
 
 pub logical-means : LogicalMeans logical
 logical-means z m ok a = logical-at z m ok a

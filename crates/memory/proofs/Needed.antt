@@ -1,5 +1,5 @@
 -- Each claim is needed: the wrong openings and the wrong look-up, and all thirteen together.
-use Prim.Native.Nat.{ℕ, zero, suc}
+use Prim.Native.Nat.{ℕ}
 use mathlib.Core.Path.{_≡_, refl, ap}
 use mathlib.Core.Logic.{_≢_}
 use mathlib.Core.List.{List, []}
@@ -11,17 +11,15 @@ use borrow.Author.Tests.{eqb-true}
 use Rattle.memory.specs.{Sizes, Memory, placeOf, phaseOf, place, setWord, sound, Looked, Reply, call, openBoard, look, opened, Machine, ours, refusal, OpeningAnswers, LookAnswers, RefusedOpeningsKeep, OpeningLeaves, OpeningIsSound, Opened, Claim, Says, Promised, Needed, EachIsNeeded, call-answers, opening-answers, look-answers, refusals-keep, refused-openings-keep, calls-are-narrow, requests-leave, entries-stored, steps-leave, clashes-end, sound-lasts, opening-leaves, opening-is-sound}
 use Rattle.memory.specs.Wrong.{leaving, opening}
 use Rattle.memory.specs.Thirteen.{withPlaces, openingSays1, lookSays5First, refusedOpeningClears, openingWrites, openingLeavesNoRows}
-use Rattle.memory.proofs.Tools.{if-cases}
+use Rattle.memory.proofs.Tools.{if-cases, any-of}
 use Rattle.memory.proofs.NeededBroken.{opening-says-1, look-says-5-first, refused-opening-clears, opening-writes, opening-leaves-no-rows}
-use Rattle.memory.proofs.NeededTools.{not-refused}
+use Rattle.memory.proofs.Cases.{no-refusal}
 use Rattle.memory.proofs.NeededRequests.{word-sound, call-answers-needed, refusals-keep-needed, calls-are-narrow-needed, requests-leave-needed, entries-stored-needed, sound-lasts-needed}
 use Rattle.memory.proofs.NeededSteps.{steps-leave-needed, clashes-end-needed}
 
 -- an empty row reads as a place of an idle task, and so does none
 no-rows : (n t : ℕ) → getD {A = List ℕ} (replicate n []) t [] ≡ []
-no-rows zero t = refl
-no-rows (suc n) zero = refl
-no-rows (suc n) (suc t) = no-rows n t
+no-rows n t = any-of (λ r. r ≡ []) n [] [] t refl refl
 
 module _ (O : Promised ours) where
   -- the calls of ours, with another opening and another look-up
@@ -99,7 +97,7 @@ module _ (O : Promised ours) where
         wrong = openingWrites;
         breaks = opening-writes;
         meets = opens opening-leaves 0 (λ z v x. setWord x 0 1) (λ z v m e. (
-          λ _. not-refused e,
+          λ _ b. no-refusal 0 refl _ b e,
           λ ne. absurd (ne refl),
           λ _ n. word-sound z _ (O opening-is-sound z v m n),
         ));
@@ -111,7 +109,7 @@ module _ (O : Promised ours) where
         wrong = openingLeavesNoRows;
         breaks = opening-leaves-no-rows;
         meets = opens opening-is-sound 0 (λ z v x. withPlaces x (replicate (z .tasks) [])) (λ z v m e. (
-          λ _. not-refused e,
+          λ _ b. no-refusal 0 refl _ b e,
           λ _ n. still z v _ (O opening-leaves z v m n),
           λ ne. absurd (ne refl),
         ));

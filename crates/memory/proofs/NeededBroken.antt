@@ -6,19 +6,10 @@ use mathlib.Core.Bool.{false≢true}
 use lib.ListN.{length, getD}
 use native.Mathlib.Omega.{arith}
 use borrow.Author.Tests.{eqb-false}
-use Rattle.memory.specs.{Memory, memory, opened, Call, ST, CM, AB, RD, small, boardAfter, writes7, commits, CallAnswers, OpeningAnswers, LookAnswers, RefusalsKeep, RefusedOpeningsKeep, CallsAreNarrow, RequestsLeave, EntriesStored, StepsLeave, ClashesEnd, SoundLasts, OpeningLeaves, OpeningIsSound}
+use Rattle.memory.specs.{Memory, memory, opened, ST, CM, AB, RD, small, boardAfter, writes7, commits, CallAnswers, OpeningAnswers, LookAnswers, RefusalsKeep, RefusedOpeningsKeep, CallsAreNarrow, RequestsLeave, EntriesStored, StepsLeave, ClashesEnd, SoundLasts, OpeningLeaves, OpeningIsSound}
 use Rattle.memory.specs.Thirteen.{startSays1, openingSays1, lookSays5First, refusedStartOpens, refusedOpeningClears, startWrites, abortDoesNothing, readScribbles, writingStays, ownerStays, startWidens, openingWrites, openingLeavesNoRows}
 use Rattle.memory.proofs.Machine.{machine}
-use Rattle.memory.proofs.Breaks.{differ, phaseKind, other-look, met}
-
--- the small board after calls, from the first version 1
-after : List Call → Memory
-unfolding boardAfter
-after cs = boardAfter (opened small 1) cs
-
--- lent nothing at all
-nothing : Memory
-nothing = memory [] [] [] []
+use Rattle.memory.proofs.Breaks.{differ, phaseKind, other-look, met, after, nothing}
 
 pub start-says-1 : CallAnswers startSays1 → ⊥
 unfolding machine small boardAfter after

@@ -9,16 +9,18 @@ use lib.ListN.{length, set, take, drop, length-set}
 use lib.Seq.{getD-set-same, getD-set-other, drop-set-add, take-set-le}
 use native.Mathlib.Omega.{arith}
 use borrow.Author.Tests.{ltb-true}
-use Rattle.memory.specs.{Sizes, Open, Entry, Memory, memory, phaseOf, placeOf, place, bare, entry, entryOf, rowOfEntry, entries, limit, mostEntries, runStart, setWord, setPlace, setEntry, sound, entryOk, held, ST, AB, RD, call, ours, KeepsOthers, Given, rowsOf, phase, Entered, Promised, Needed, call-answers, refusals-keep, calls-are-narrow, requests-leave, entries-stored, sound-lasts}
+use Rattle.memory.specs.{Sizes, Open, Entry, Memory, memory, phaseOf, placeOf, place, bare, entry, entryOf, rowOfEntry, entries, limit, mostEntries, runStart, setWord, setPlace, setEntry, sound, entryOk, held, ST, AB, RD, call, ours, KeepsOthers, Given, refusal, rowsOf, phase, Entered, Promised, Needed, call-answers, refusals-keep, calls-are-narrow, requests-leave, entries-stored, sound-lasts}
 use Rattle.memory.specs.Thirteen.{withPlaces, mark, scribbled, startSays1, refusedStartOpens, startWrites, abortDoesNothing, readScribbles, startWidens}
 use Rattle.memory.proofs.Tools.{if-cases}
+use Rattle.memory.proofs.Cases.{no-refusal}
+use Rattle.memory.proofs.AlikeReplies.{allowed}
 use Rattle.memory.proofs.Stores.{places-apart, entry-other}
 use Rattle.memory.proofs.Facts.{Apart, in-places}
 use Rattle.memory.proofs.Lasts.{task-of, owner-of, sound-step}
 use Rattle.memory.proofs.Narrow.{untouched}
 use Rattle.memory.proofs.Meanings.{means}
 use Rattle.memory.proofs.NeededBroken.{start-says-1, refused-start-opens, start-writes, abort-does-nothing, read-scribbles, start-widens}
-use Rattle.memory.proofs.NeededTools.{for-start, starts, aborts, reads, not-refused, allowed}
+use Rattle.memory.proofs.NeededTools.{for-start, starts, aborts, reads}
 
 -- Stores that a request should not make ------------------------------------------------------------------------------------------------------
 
@@ -48,7 +50,8 @@ module _ (z : Sizes) (m : Memory) (ok : sound z m ≡ true) (w : List ℕ) (l : 
       (λ r h. inl (
         unfold held in refl,
         λ q.
-            let o = owner-of z m ok r t h (unfold held in q) in (o .0, o .1, o .2, o .3, ap (λ (e : Entry). e .address % z .records) (own (o .1) (o .2)) ∙ o .4),
+            let o = owner-of z m ok r t h (unfold held in q) in
+            (o .0, o .1, o .2, o .3, ap (λ (e : Entry). e .address % z .records) (own (o .1) (o .2)) ∙ o .4),
       ))
 
 pub word-sound : (z : Sizes) (x : Memory) → sound z x ≡ true → sound z (setWord x 0 1) ≡ true
@@ -60,7 +63,8 @@ word-sound z x s =
 -- its own row may be stored as anything
 own-row : (z : Sizes) (m : Memory) (t : ℕ) (x : Memory) (row : List ℕ) → KeepsOthers z m t x → KeepsOthers z m t (withPlaces x (set (x .places) t row))
 unfolding entry
-own-row z m t x row K = record { words = K .words; records = K .records; places = λ u ne. getD-set-other (x .places) t u row [] ne ∙ K .places u ne; runs = K .runs }
+own-row z m t x row K =
+    record { words = K .words; records = K .records; places = λ u ne. getD-set-other (x .places) t u row [] ne ∙ K .places u ne; runs = K .runs }
 
 -- a row of four numbers reads as one of three
 wide-row : (x : Memory) (t : ℕ) → t < length (x .places) → place (withPlaces x (set (x .places) t (0 ∷ 1 ∷ 0 ∷ 0 ∷ []))) t ≡ bare 0 Open
@@ -149,7 +153,7 @@ module _ (O : Promised ours) where
         meets = starts O calls-are-narrow 0 _ (λ z m t e.
             record {
               answers = λ _. O call-answers z m (ST t);
-              kept = λ _. not-refused e;
+              kept = λ _ b. no-refusal 0 refl _ b e;
               narrow = λ ne. absurd (ne refl);
               leave = λ _ n. unfold setWord place in O requests-leave z m (ST t) n;
               stored = λ _. tt;
@@ -167,10 +171,10 @@ module _ (O : Promised ours) where
         meets = starts O sound-lasts 0 _ (λ z m t e.
             record {
               answers = λ _. O call-answers z m (ST t);
-              kept = λ _. not-refused e;
+              kept = λ _ b. no-refusal 0 refl _ b e;
               narrow = λ _. own-row z m t _ _ (O calls-are-narrow z m (ST t));
               leave = λ _ n.
-                  let s = allowed z m t e (O call-answers z m (ST t) .0) in
+                  let s = allowed z m t _ _ [] (ap refusal e) (O call-answers z m (ST t) .0) .0 in
                   (wide-row (call z m (ST t) .after) t (in-places z _ (O sound-lasts z m (s .0) (ST t)) t (s .1)), O requests-leave z m (ST t) n .1);
               stored = λ _. tt;
               step = λ _. tt;
@@ -208,7 +212,7 @@ module _ (O : Promised ours) where
             let x = call z m (RD t a) .after in
             record {
               answers = λ _. O call-answers z m (RD t a);
-              kept = λ _. not-refused e;
+              kept = λ _ b. no-refusal 0 refl _ b e;
               narrow = λ _. let K = O calls-are-narrow z m (RD t a) in scribbled-cases z t x (KeepsOthers z m t) (λ h. others z m t x K) K;
               leave = λ _. (
                 λ n. absurd (omega (arith, e, n)),
@@ -219,7 +223,9 @@ module _ (O : Promised ours) where
               stored = λ ne. absurd (ne refl);
               step = λ _. tt;
               clash = λ _. tt;
-              lasts = λ _ ok. scribbled-sound z t x (allowed z m t e (O call-answers z m (RD t a) .0) .1) (O sound-lasts z m ok (RD t a));
+              lasts = λ _ ok.
+                  let (_, lt, _) = allowed z m t _ _ (drop 3 (rowsOf z m (RD t a) m)) (ap refusal e) (O call-answers z m (RD t a) .0) .0 in
+                  scribbled-sound z t x lt (O sound-lasts z m ok (RD t a));
             });
       }
     where

@@ -1,29 +1,29 @@
 -- The claims that a wrong step breaks alone.
 use Prim.Native.Nat.{ℕ, _%_, _<_}
 use mathlib.Core.Path.{_≡_, refl, sym, ap, _∙_, subst⁻¹}
-use mathlib.Core.Logic.{inl, inr, _≢_}
+use mathlib.Core.Logic.{inr, _≢_, ⊎-elim}
 use mathlib.Core.Bool.{Bool, true, false≢true}
 use lib.Dec.{eqb}
+use lib.ListN.{drop}
 use native.Mathlib.Omega.{arith}
 use borrow.Author.Tests.{ltb-true, eqb-true, eqb-false, not-true}
-use Rattle.memory.specs.{Sizes, Failed, Taking, Asleep, Writing, Releasing, Held, Version, Owner, Place, Memory, kindOf, positionOf, is, held, place, moved, entry, move, sound, Reply, reply, if_then_else_, SP, call, ours, Given, rowsOf, phase, Meets, Steps, Promised, Claim, Needed, call-answers, steps-leave, clashes-end}
+use Rattle.memory.specs.{Sizes, Failed, Taking, Asleep, Writing, Releasing, Held, Version, Owner, Place, Memory, kindOf, positionOf, is, held, entry, move, sound, Reply, reply, if_then_else_, SP, call, ours, Given, refusal, rowsOf, phase, Meets, Steps, Promised, Claim, Needed, call-answers, steps-leave, clashes-end}
 use Rattle.memory.specs.Thirteen.{another, comesToAnother, writingStays, ownerStays}
 use Rattle.memory.proofs.Tools.{and-0, and-1, if-cases}
+use Rattle.memory.proofs.Cases.{no-refusal}
+use Rattle.memory.proofs.AlikeReplies.{allowed, others-give}
+use Rattle.memory.proofs.Went.{moved-to}
 use Rattle.memory.proofs.Codes.{is-taking, not-owner, owner-inj}
-use Rattle.memory.proofs.Stores.{place-same}
-use Rattle.memory.proofs.Facts.{in-places}
 use Rattle.memory.proofs.Narrow.{still, moves-on}
 use Rattle.memory.proofs.SoundSteps.{phase-sound}
 use Rattle.memory.proofs.NeededBroken.{writing-stays, owner-stays}
-use Rattle.memory.proofs.NeededTools.{But, ours-but, steps, not-refused, allowed}
+use Rattle.memory.proofs.NeededTools.{But, ours-but, steps}
 
 -- the number 0 says of the memory that is left only that the task does not sleep
 awake : (z : Sizes) (m : Memory) (t : ℕ) (x x′ : Memory) {n : ℕ} → n ≡ 0 → phase x′ t ≢ Asleep → Given (rowsOf z m (SP t) x) n → Given (rowsOf z m (SP t) x′) n
-awake z m t x x′ e ne (inl g) = inl g
-awake z m t x x′ e ne (inr (a, inl g)) = inr (a, inl g)
-awake z m t x x′ e ne (inr (a, inr (b, inl g))) = inr (a, inr (b, inl g))
-awake z m t x x′ e ne (inr (a, inr (b, inr (c, inl g)))) = absurd (omega (arith, e, g .1))
-awake z m t x x′ e ne (inr (a, inr (b, inr (c, inr (d, g))))) = inr (a, inr (b, inr (c, inr (ne, g))))
+awake z m t x x′ {n} e ne =
+    others-give z m t _ n (drop 3 (rowsOf z m (SP t) x)) (drop 3 (rowsOf z m (SP t) x′))
+    (λ _. ⊎-elim (λ g. absurd (omega (arith, e, g .1))) (λ g. inr (ne, g .1)))
 
 -- the test for which the owner stays
 comes : (z : Sizes) (m : Memory) (t : ℕ) → comesToAnother z m t ≡ true → (u : ℕ) × Meets z m t u
@@ -37,10 +37,7 @@ comes z m t c =
     owned (Owner u) a = (u, refl, eqb-false u t (not-true _ a))
 
 fallen : (z : Sizes) (m : Memory) (t : ℕ) → sound z m ≡ true → t < z .tasks → phase (move m t (Releasing Failed 0)) t ≢ Asleep
-unfolding move
-fallen z m t ok lt q =
-    let here = place-same m t (moved (place m t) (Releasing Failed 0)) (in-places z m ok t lt) in
-    let k : _≡_ {A = ℕ} 6 4 = ap (λ (x : Place). kindOf (x .phase)) (sym here) ∙ ap kindOf q in omega arith
+fallen z m t ok lt q = omega (arith, ap (λ (x : Place). kindOf (x .phase)) (moved-to z m t ok lt m (Releasing Failed 0) refl), ap kindOf q)
 
 module _ (O : Promised ours) where
   module _ (c : Claim) (z : Sizes) (m : Memory) (t : ℕ) where
@@ -92,10 +89,10 @@ module _ (O : Promised ours) where
     where
       met : (z : Sizes) (m : Memory) (t : ℕ) → call z m (SP t) .number ≡ 0 → (u : ℕ) × Meets z m t u → Leaving clashes-end z m t (move m t (Releasing Failed 0))
       met z m t e (u, (g, i, q, h, o, ne)) =
-          let (ok, lt) = allowed z m t e (O call-answers z m (SP t) .0) in
+          let (ok, lt, _) = allowed z m t _ _ (drop 3 (rowsOf z m (SP t) (call z m (SP t) .after))) (ap refusal e) (O call-answers z m (SP t) .0) .0 in
           record {
             answers = λ _. still-answers clashes-end z m t e _ (fallen z m t ok lt);
-            kept = λ _. not-refused e;
+            kept = λ _ b. no-refusal 0 refl _ b e;
             narrow = λ _. moves-on z m t (Releasing Failed 0);
             leave = λ _. tt;
             stored = λ _. tt;

@@ -1,14 +1,13 @@
 -- Each claim is needed: what the claims say of one reply. A machine with one kind of reply twisted has to be looked at there only.
-use Prim.Native.Nat.{ℕ, _<_, _≤_}
-use mathlib.Core.Path.{_≡_, sym, ap, _∙_}
-use mathlib.Core.Logic.{_⊎_, inl, inr, _≢_}
-use mathlib.Core.Bool.{true, false, false≢true}
+use Prim.Native.Nat.{ℕ, _<_}
+use mathlib.Core.Path.{_≡_}
+use mathlib.Core.Logic.{_⊎_, _≢_}
+use mathlib.Core.Bool.{true}
 use lib.Dec.{eqb}
-use native.Mathlib.Omega.{arith}
 use borrow.Author.Tests.{eqb-true}
 use Rattle.memory.specs.{Sizes, Memory, place, sound, Reply, reply, Call, ST, CM, AB, WT, SP, RD, WR, call, ours, refusal, Given, rowsOf, phase, Valued, Narrow, Leaves, Stores, Steps, Meets, Clash, Claim, Says, Promised, call-answers, opening-answers, look-answers, refusals-keep, refused-openings-keep, calls-are-narrow, requests-leave, entries-stored, steps-leave, clashes-end, sound-lasts, opening-leaves, opening-is-sound}
 use Rattle.memory.specs.Wrong.{Twist, leaving, straight, twisted, calling, starting, aborting, stepping, reading}
-use Rattle.memory.proofs.Tools.{both, if-cases}
+use Rattle.memory.proofs.Tools.{if-cases}
 
 -- The claims at one reply ----------------------------------------------------------------------------------------------------------------
 
@@ -114,7 +113,8 @@ module _ (O : Promised ours) (c : Claim) where
     changed : (k : ℕ → Call) → Changed k → At k Leaving
     changed k B z m t =
         let r = call z m (k t) in
-        if-cases (λ (x : Memory). But c z m (k t) (reply (r .number) (r .value) x)) (eqb (r .number) n) _ _ (λ e. B z m t (eqb-true _ _ e)) (λ e. ours-but z m (k t))
+        if-cases (λ (x : Memory). But c z m (k t) (reply (r .number) (r .value) x)) (eqb (r .number) n) _ _
+        (λ e. B z m t (eqb-true _ _ e)) (λ e. ours-but z m (k t))
 
     pub starts : Changed ST → (d : Claim) → d ≢ c → Says d (starting Leaving)
     starts B = for-start Leaving (changed ST B)
@@ -127,20 +127,3 @@ module _ (O : Promised ours) (c : Claim) where
 
     pub reads : ((a : ℕ) → Changed (λ t. RD t a)) → (d : Claim) → d ≢ c → Says d (reading (λ a. Leaving))
     reads B = each straight straight straight (λ a. Leaving) (as-ours ST) (as-ours AB) (as-ours SP) (λ a. changed (λ t. RD t a) (B a))
-
--- What the number 0 tells --------------------------------------------------------------------------------------------------------------------
-
-pub not-refused : {n : ℕ} {A : Type 0} → n ≡ 0 → refusal n ≡ true → A
-not-refused e b = absurd (false≢true (ap refusal (sym e) ∙ b))
-
--- the first two rows do not apply: the table is sound, and there is such a task
-pub allowed : (z : Sizes) (m : Memory) (t : ℕ) {n : ℕ} {More : Type 0} → n ≡ 0
-    → ((sound z m ≡ false) × (n ≡ 1)) ⊎ ((sound z m ≡ false → ⊥) × (((z .tasks ≤ t) × (n ≡ 3)) ⊎ ((z .tasks ≤ t → ⊥) × More)))
-    → (sound z m ≡ true) × (t < z .tasks)
-allowed z m t e (inl x) = absurd (omega (arith, e, x .1))
-allowed z m t e (inr (a, inl x)) = absurd (omega (arith, e, x .1))
-allowed z m t e (inr (a, inr (b, more))) = (yes (both (sound z m)), omega (arith, b))
-  where
-    yes : (sound z m ≡ true) ⊎ (sound z m ≡ false) → sound z m ≡ true
-    yes (inl s) = s
-    yes (inr s) = absurd (a s)

@@ -2,30 +2,20 @@
 -- set out, with the entries that it had there.
 use Prim.Native.Nat.{ℕ, suc, _%_, _<_}
 use mathlib.Core.Path.{_≡_, refl, sym, ap, _∙_, subst}
-use mathlib.Core.Logic.{_⊎_, inl, inr, _≢_, ⊎-elim}
-use mathlib.Core.Bool.{true, false≢true}
+use mathlib.Core.Logic.{_≢_, ⊎-elim}
+use mathlib.Core.Bool.{true}
 use lib.ListN.{drop}
 use native.Mathlib.Omega.{arith}
-use Rattle.memory.specs.{Sizes, Goal, Commit, Outcome, Committed, Failed, Woken, Phase, Idle, Open, Taking, Writing, Releasing, Place, Held, Version, Owner, Entry, Memory, kindOf, whichOf, positionOf, steps, place, entry, held, bare, moved, sound, endNumber, SP, call, phase, Given, rowsOf, word, Same, ButAt, Left, final, Steps, Meets, Clash}
-use Rattle.memory.proofs.Codes.{not-owner, owner-inj}
+use Rattle.memory.specs.{Sizes, Goal, Commit, Outcome, Committed, Failed, Phase, Idle, Taking, Writing, Releasing, Place, Held, Version, Owner, Entry, Memory, kindOf, positionOf, steps, place, entry, held, bare, moved, sound, endNumber, SP, call, phase, Given, rowsOf, word, Same, ButAt, Left, final, Steps, Meets, Clash}
+use Rattle.memory.proofs.Codes.{not-owner, owner-inj, count-of, phase-of}
+use Rattle.memory.proofs.Stores.{entry-from}
+use Rattle.memory.proofs.Went.{steps-not}
 use Rattle.memory.proofs.SoundLasts.{call-sound}
 use Rattle.memory.proofs.Answers.{one-number, numbers-given}
-use Rattle.memory.proofs.StepAnswers.{ending}
+use Rattle.memory.proofs.StepAnswers.{ending, moved-given, ended-given}
 use Rattle.memory.proofs.Stepping.{steps-leave, clashes-end}
 use Rattle.memory.proofs.Runs.{not-refused}
-use Rattle.memory.proofs.Tables.{count-of, phase-of, entry-from, same-all, but-all}
-
--- a step that neither falls asleep nor ends answers 0
-under-way : (n : ℕ) (p p′ : Phase) → kindOf p′ ≢ 4 → (kindOf p ≡ 6 → positionOf p < n) → Given (ending n p p′) 0
-under-way n p p′ awake before = inr (λ x. awake (ap kindOf x), inr (ends Committed, inr (ends Failed, inr (ends Woken, refl))))
-  where
-    ends : (o : Outcome) → p ≡ Releasing o n → ⊥
-    ends o x = omega (arith, before (ap kindOf x), ap positionOf x)
-
-at-the-end : (n : ℕ) (o : Outcome) → Given (ending n (Releasing o n) Idle) (endNumber o)
-at-the-end n Committed = inr (λ x. omega (arith, ap kindOf x), inl (refl, refl))
-at-the-end n Failed = inr (λ x. omega (arith, ap kindOf x), inr (λ x. omega (arith, ap whichOf x), inl (refl, refl)))
-at-the-end n Woken = inr (λ x. omega (arith, ap kindOf x), inr (λ x. omega (arith, ap whichOf x), inr (λ x. omega (arith, ap whichOf x), inl (refl, refl))))
+use Rattle.memory.proofs.Tables.{same-all, but-all}
 
 module _ (z : Sizes) (t : ℕ) (lt : t < z .tasks) (b : Memory) where
   abbrev n : ℕ
@@ -104,14 +94,7 @@ module _ (z : Sizes) (t : ℕ) (lt : t < z .tasks) (b : Memory) where
     said : (k : ℕ) (p′ : Phase) → steps p ≡ true → phase m′ t ≡ p′ → Given (ending n p p′) k → call z m (SP t) .number ≡ k
     said k p′ moves to g =
         one-number (rowsOf z m (SP t) m′) _ _ (numbers-given z m (SP t))
-        (not-refused z m t (S .ok) lt _ (drop 3 (rowsOf z m (SP t) m′)) k not-still (rw (count, in-p, to) g))
-      where
-        still : {q : Phase} → phase m t ≡ q → steps q ≡ true
-        still x = ap steps (sym x ∙ in-p) ∙ moves
-
-        not-still : (phase m t ≡ Idle) ⊎ (phase m t ≡ Open) → ⊥
-        not-still (inl x) = false≢true (still x)
-        not-still (inr x) = false≢true (still x)
+        (not-refused z m t (S .ok) lt _ (drop 3 (rowsOf z m (SP t) m′)) k (steps-not (phase m t) (ap steps in-p ∙ moves)) (rw (count, in-p, to) g))
 
     stepped : {k : ℕ} {q : Place} {Words : (ℕ → ℕ) → (ℕ → ℕ) → Type 0} {Records : (ℕ → Held) → (ℕ → Held) → Type 0}
         → Left m t m′ q Words Records → steps p ≡ true → Given (ending n p (q .phase)) k → ((u : ℕ) → u ≢ t → Meets z m t u → ⊥)
@@ -132,24 +115,21 @@ module _ (z : Sizes) (t : ℕ) (lt : t < z .tasks) (b : Memory) where
   -- Taking -----------------------------------------------------------------------------------------------------------------------
 
   module _ (m : Memory) (g : Goal) (i : ℕ) (S : Stands m (bare n (Taking g i))) (h : i < n) where
-    going : {p′ : Phase} → kindOf p′ ≢ 4 → Given (ending n (Taking g i) p′) 0
-    going {p′ = p′} awake = under-way n (Taking g i) p′ awake (λ d. h)
-
     pub takes : held m (rec i) ≡ Version (e i .old .version) → Stepped m 0 (bare n (Taking g (suc i))) Same (ButAt (rec i) (Owner t))
     takes q =
-        stepped m _ S (rw (count m _ S, same m _ S i) at (left m _ S .1) h q) refl (going (λ d. omega (arith, d)))
+        stepped m _ S (rw (count m _ S, same m _ S i) at (left m _ S .1) h q) refl (moved-given n _ _ (λ o x. omega (arith, ap kindOf x)))
         (λ u ne x. not-owner (e i .old .version) u (sym q ∙ met m _ S u x .2))
 
     pub has : held m (rec i) ≡ Owner t → Stepped m 0 (bare n (Taking g (suc i))) Same Same
     has q =
-        stepped m _ S (rw (count m _ S, same m _ S i) at (left m _ S .2) h q) refl (going (λ d. omega (arith, d)))
+        stepped m _ S (rw (count m _ S, same m _ S i) at (left m _ S .2) h q) refl (moved-given n _ _ (λ o x. omega (arith, ap kindOf x)))
         (λ u ne x. ne (owner-inj u t (sym (met m _ S u x .2) ∙ q)))
 
     -- it meets the owner, and nobody else
     pub meets : (u : ℕ) → u ≢ t → held m (rec i) ≡ Owner u
         → (call z m (SP t) .number ≡ 0) × Clash m t u (next m) × ((w : ℕ) → w ≢ t → w ≢ u → place (next m) w ≡ place m w)
     meets u ne q = (
-      said m _ S 0 (Releasing Failed 0) refl (phase-of (clashed .comer)) (going (λ d. omega (arith, d))),
+      said m _ S 0 (Releasing Failed 0) refl (phase-of (clashed .comer)) (moved-given n _ _ (λ o x. omega (arith, ap kindOf x))),
       clashed,
       λ w nt nu. beside m _ S w nt (λ x. nu (owner-inj w u (sym (met m _ S w x .2) ∙ q))),
     )
@@ -162,7 +142,7 @@ module _ (z : Sizes) (t : ℕ) (lt : t < z .tasks) (b : Memory) where
 
   pub decides : (m : Memory) → Stands m (bare n (Taking Commit n)) → Stepped m 0 (bare n (Writing 0)) Same Same
   decides m S =
-      stepped m _ S (rw (count m _ S) at (left m _ S .0) refl) refl (under-way n _ _ (λ d. omega (arith, d)) (λ d. omega arith))
+      stepped m _ S (rw (count m _ S) at (left m _ S .0) refl) refl (moved-given n _ _ (λ o x. omega (arith, ap kindOf x)))
       (λ u ne x. omega (arith, met m _ S u x .1))
 
   -- Writing ----------------------------------------------------------------------------------------------------------------------
@@ -170,12 +150,12 @@ module _ (z : Sizes) (t : ℕ) (lt : t < z .tasks) (b : Memory) where
   pub writes : (m : Memory) (i : ℕ) → Stands m (bare n (Writing i)) → i < n
       → Stepped m 0 (bare n (Writing (suc i))) (ButAt (e i .address) (e i .new .value)) Same
   writes m i S h =
-      stepped m _ S (rw (count m _ S, same m _ S i) at (left m _ S .1) h) refl (under-way n _ _ (λ d. omega (arith, d)) (λ d. h))
+      stepped m _ S (rw (count m _ S, same m _ S i) at (left m _ S .1) h) refl (moved-given n _ _ (λ o x. omega (arith, ap kindOf x)))
       (λ u ne x. omega (arith, met m _ S u x .0))
 
   pub wrote-all : (m : Memory) → Stands m (bare n (Writing n)) → Stepped m 0 (bare n (Releasing Committed 0)) Same Same
   wrote-all m S =
-      stepped m _ S (rw (count m _ S) at (left m _ S .0) refl) refl (under-way n _ _ (λ d. omega (arith, d)) (λ d. omega arith))
+      stepped m _ S (rw (count m _ S) at (left m _ S .0) refl) refl (moved-given n _ _ (λ o x. omega (arith, ap kindOf x)))
       (λ u ne x. omega (arith, met m _ S u x .0))
 
   -- Releasing --------------------------------------------------------------------------------------------------------------------
@@ -183,13 +163,13 @@ module _ (z : Sizes) (t : ℕ) (lt : t < z .tasks) (b : Memory) where
   module _ (m : Memory) (o : Outcome) (i : ℕ) (S : Stands m (bare n (Releasing o i))) (h : i < n) where
     pub frees : held m (rec i) ≡ Owner t → Stepped m 0 (bare n (Releasing o (suc i))) Same (ButAt (rec i) (Version (final o (e i))))
     frees q =
-        stepped m _ S (rw (count m _ S, same m _ S i) at (left m _ S .1) h q) refl (under-way n _ _ (λ d. omega (arith, d)) (λ d. h))
+        stepped m _ S (rw (count m _ S, same m _ S i) at (left m _ S .1) h q) refl (moved-given n _ _ (λ o x. omega (arith, h, ap positionOf x)))
         (λ u ne x. omega (arith, met m _ S u x .0))
 
     pub passes : held m (rec i) ≢ Owner t → Stepped m 0 (bare n (Releasing o (suc i))) Same Same
     passes q =
-        stepped m _ S (rw (count m _ S, same m _ S i) at (left m _ S .2) h q) refl (under-way n _ _ (λ d. omega (arith, d)) (λ d. h))
+        stepped m _ S (rw (count m _ S, same m _ S i) at (left m _ S .2) h q) refl (moved-given n _ _ (λ o x. omega (arith, h, ap positionOf x)))
         (λ u ne x. omega (arith, met m _ S u x .0))
 
   pub ends : (m : Memory) (o : Outcome) → Stands m (bare n (Releasing o n)) → Stepped m (endNumber o) (bare 0 Idle) Same Same
-  ends m o S = stepped m _ S (rw (count m _ S) at (left m _ S .0) refl) refl (at-the-end n o) (λ u ne x. omega (arith, met m _ S u x .0))
+  ends m o S = stepped m _ S (rw (count m _ S) at (left m _ S .0) refl) refl (ended-given n o) (λ u ne x. omega (arith, met m _ S u x .0))

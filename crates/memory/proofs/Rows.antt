@@ -3,15 +3,15 @@ use Prim.Native.Nat.{ℕ, suc, _+_, _<_, _≤_}
 use mathlib.Core.Path.{_≡_, refl, sym, ap, _∙_}
 use mathlib.Core.Logic.{_≢_}
 use mathlib.Core.List.{List, []}
-use mathlib.Core.Bool.{true, false≢true}
+use mathlib.Core.Bool.{true}
 use lib.Dec.{eqb}
-use lib.ListN.{length, getD}
+use lib.ListN.{length}
 use native.Mathlib.Omega.{arith}
-use Rattle.memory.specs.{Sizes, Place, Entry, Memory, place, placeOf, entry, entryOf, rowOfEntry, limit, runStart, setPlace, setEntry, topVersion, sound, Reply, refusal, fresh, added, read, written, rewrite, store, write, ST, CM, AB, WT, SP, RD, WR, call, ours, Scene, entryRow, StoredFrom, Stores, EntriesStored, OpeningIsSound}
+use Rattle.memory.specs.{Sizes, Entry, Memory, place, entry, entryOf, rowOfEntry, limit, runStart, setPlace, setEntry, topVersion, sound, Reply, fresh, added, read, written, rewrite, store, write, ST, CM, AB, WT, SP, RD, WR, call, ours, Scene, entryRow, StoredFrom, Stores, EntriesStored, OpeningIsSound}
 use Rattle.memory.proofs.Tools.{if-cases}
-use Rattle.memory.proofs.Codes.{entry-back}
-use Rattle.memory.proofs.Cases.{addressed-cases}
-use Rattle.memory.proofs.Stores.{places-apart, run-inside, row-same, row-other, rewrite-places, rewritten-row, rewrite-row}
+use Rattle.memory.proofs.Codes.{entry-back, count-of}
+use Rattle.memory.proofs.Cases.{no-refusal, addressed-cases}
+use Rattle.memory.proofs.Stores.{places-apart, run-inside, row-same, row-other, rewrite-places, rewritten-row, rewrite-row, place-from}
 use Rattle.memory.proofs.Facts.{entries-length, count-most, run-fits}
 use Rattle.memory.proofs.Fresh.{added-place, added-fits}
 use Rattle.memory.proofs.Serial.{always}
@@ -37,14 +37,14 @@ all-stored z m t from m₁ f n S c few fits =
     }
   where
     here : place (rewrite z m₁ t f n) t .count ≡ place m₁ t .count
-    here = unfold place in ap (λ (l : List (List ℕ)). placeOf (getD l t []) .count) (rewrite-places z m₁ t f n)
+    here = count-of (place-from m₁ (rewrite z m₁ t f n) (rewrite-places z m₁ t f n) t)
 
 module _ (z : Sizes) (m : Memory) (t a : ℕ) (ok : sound z m ≡ true) (lt : t < z .tasks) where
   abbrev c : ℕ
   c = place m t .count
 
   added-count : place (added z m t a) t .count ≡ suc c
-  added-count = ap (λ (q : Place). q .count) (added-place z m ok t lt a)
+  added-count = count-of (added-place z m ok t lt a)
 
   added-rows : (u i : ℕ) → entryRow z (added z m t a) u i ≡ entryRow z (setEntry z m t c (fresh z m t a)) u i
   unfolding added setPlace
@@ -67,9 +67,6 @@ module _ (z : Sizes) (m : Memory) (t a : ℕ) (ok : sound z m ≡ true) (lt : t 
           ap (entryRow z (added z m t a) t) q ∙ added-rows t c
           ∙ row-same z m t c (fresh z m t a) (omega (arith, run-inside z t lt m (entries-length z m ok)))
 
-none : {A : Type 0} (n : ℕ) → refusal n ≡ true → n ≡ 0 → A
-none n k e = absurd (false≢true (ap refusal (sym e) ∙ k))
-
 store-stored : (z : Sizes) (m : Memory) (t a v : ℕ) (m₁ : Memory) (n : ℕ) (e : Entry) → StoredFrom 0 z m t (rewrite z m₁ t (written (z .records) a v) n)
     → store z m m₁ t a v n e .number ≡ 0 → StoredFrom 0 z m t (store z m m₁ t a v n e .after)
 unfolding store
@@ -84,10 +81,10 @@ entries-stored z m (AB t) = tt
 entries-stored z m (WT t) = tt
 entries-stored z m (SP t) = tt
 entries-stored z m (RD t a) =
-    addressed-cases z m t a _ _ (Stores z m (RD t a)) (λ n k. none n k) (λ ok lt op x. absurd (omega (arith, x)))
+    addressed-cases z m t a _ _ (Stores z m (RD t a)) (no-refusal 0 refl) (λ ok lt op x. absurd (omega (arith, x)))
     (λ ok lt op w k x. none-stored z m t) (λ ok lt op w k room o x. one-stored z m t a ok lt room)
 entries-stored z m (WR t a v) =
-    addressed-cases z m t a _ _ (Stores z m (WR t a v)) (λ n k. none n k) (λ ok lt op x. absurd (omega (arith, x)))
+    addressed-cases z m t a _ _ (Stores z m (WR t a v)) (no-refusal 0 refl) (λ ok lt op x. absurd (omega (arith, x)))
     (λ ok lt op w k. store-stored z m t a v m _ _ (all-stored z m t _ m _ _ (none-stored z m t) refl (count-most z m ok t lt) (run-fits z m ok t lt)))
     (λ ok lt op w k room o. store-stored z m t a v (added z m t a) _ _
     (all-stored z m t _ (added z m t a) _ _ (one-stored z m t a ok lt room) (sym (added-count z m t a ok lt)) room (added-fits z m ok t lt a room)))

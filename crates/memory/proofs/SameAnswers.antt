@@ -1,67 +1,23 @@
 -- On two tables that a task cannot tell apart, its Start, Reads and Writes are answered the same.
-use Prim.Native.Nat.{ℕ, _%_, _<_, _≤_}
+use Prim.Native.Nat.{ℕ, _<_}
 use mathlib.Core.Path.{_≡_, refl, sym, ap, _∙_, subst, subst⁻¹}
-use mathlib.Core.Logic.{_⊎_, inl, inr, _≢_, ⊎-elim}
-use mathlib.Core.List.{List, [], _∷_, _++_, map}
-use mathlib.Core.Bool.{Bool, true, false}
-use lib.Dec.{eqb, ltb}
+use mathlib.Core.Logic.{_≢_, ⊎-elim}
+use mathlib.Core.List.{List, [], _∷_, map}
+use mathlib.Core.Bool.{true}
 use lib.ListN.{length, drop}
-use native.Mathlib.Omega.{arith}
-use borrow.Author.Tests.{eqb-true, eqb-false, ltb-true, ltb-false}
-use Rattle.memory.specs.{Sizes, Idle, Open, Place, Seen, Entry, Memory, steps, place, entries, run, bare, index, logical, sound, Reply, Call, ST, RD, WR, call, numbers, rowsOf, Row, Given, refusals, _∈_, phase, Fresh, Entered, Written, Use, reads, writes, useBy, body, AllZero, said, ours}
-use Rattle.memory.proofs.Tools.{same?}
-use Rattle.memory.proofs.Find.{index-found, index-none, find?}
+use Rattle.memory.specs.{Sizes, Idle, Open, Place, Seen, Entry, Memory, steps, place, entries, run, bare, logical, sound, Reply, Call, ST, RD, WR, call, numbers, rowsOf, Row, Given, refusals, _∈_, phase, Entered, Use, reads, writes, useBy, body, AllZero, said, ours}
+use Rattle.memory.proofs.Alike.{entered-same, one-written}
+use Rattle.memory.proofs.Codes.{phase-of}
+use Rattle.memory.proofs.Find.{find?}
 use Rattle.memory.proofs.Facts.{entries-count}
 use Rattle.memory.proofs.SoundLasts.{call-sound}
 use Rattle.memory.proofs.Narrow.{calls-are-narrow}
 use Rattle.memory.proofs.Answers.{one-number, call-answers}
+use Rattle.memory.proofs.AlikeReplies.{allowed}
 use Rattle.memory.proofs.Effects.{requests-leave}
-use Rattle.memory.proofs.Tables.{phase-of}
 use Rattle.memory.proofs.Runs.{not-refused}
 use Rattle.memory.proofs.Begun.{use-keeps}
 use Rattle.memory.proofs.SameBoard.{logical-kept}
-
--- What is entered and written is told in full ------------------------------------------------------------------------------------------
-
-same-entry : (e f : Entry) → e .address ≡ f .address → e .old ≡ f .old → e .new .value ≡ f .new .value → e .new .version ≡ f .new .version → e ≡ f
-same-entry e f a o v w =
-    ap (λ (x : ℕ). made x (e .old) (e .new .value) (e .new .version)) a
-    ∙ ap (λ (x : Seen). made (f .address) x (e .new .value) (e .new .version)) o
-    ∙ ap (λ (x : ℕ). made (f .address) (f .old) x (e .new .version)) v
-    ∙ ap (λ (x : ℕ). made (f .address) (f .old) (f .new .value) x) w
-  where
-    made : ℕ → Seen → ℕ → ℕ → Entry
-    made a s v w = record { address = a; old = s; new = record { value = v; version = w } }
-
-written-same : (n a v : ℕ) (e f g : Entry) → Written n a v e f → Written n a v e g → f ≡ g
-written-same n a v e f g F G =
-    same-entry f g (F .address ∙ sym (G .address)) (F .old ∙ sym (G .old))
-    (⊎-elim (λ q. F .value q ∙ sym (G .value q)) (λ q. F .other-value q ∙ sym (G .other-value q)) (same? (e .address) a))
-    (⊎-elim (λ q. F .version q ∙ sym (G .version q)) (λ q. F .other-version q ∙ sym (G .other-version q)) (same? (e .address % n) (a % n)))
-
-map-same : (f g : Entry → Entry) → ((e : Entry) → f e ≡ g e) → (l : List Entry) → map f l ≡ map g l
-map-same f g s [] = refl
-map-same f g s (e ∷ l) = ap (λ (x : Entry). x ∷ map f l) (s e) ∙ ap (λ (x : List Entry). g e ∷ x) (map-same f g s l)
-
-on-record? : (n r : ℕ) (es : List Entry) → ((e : Entry) × e ∈ es × (e .address % n ≡ r)) ⊎ ((e : Entry) → e ∈ es → e .address % n ≡ r → ⊥)
-on-record? n r es = go (ltb (index on es) (length es)) refl
-  where
-    on : Entry → Bool
-    on e = eqb (e .address % n) r
-
-    go : (b : Bool) → ltb (index on es) (length es) ≡ b → ((e : Entry) × e ∈ es × (e .address % n ≡ r)) ⊎ ((e : Entry) → e ∈ es → e .address % n ≡ r → ⊥)
-    go true q = let x = index-found on es (ltb-true _ _ q) in inl (_, x .0, eqb-true _ _ (x .1))
-    go false q = inr (λ e k. eqb-false _ _ (index-none on es (ltb-false _ _ q) e k))
-
--- where 0 is answered, no row's condition holds
-passed : (k : ℕ) (C : Type 0) (rows : List Row) → k ≢ 0 → Given ((k, C) ∷ rows) 0 → Given rows 0
-passed k C rows ne (inl x) = absurd (ne (sym (x .1)))
-passed k C rows ne (inr x) = x .1
-
-past : (z : Sizes) (m : Memory) (t : ℕ) (D : Type 0) (rows : List Row) → Given (refusals z m t D rows) 0 → Given rows 0
-past z m t D rows g =
-    passed 4 D rows (λ e. omega (arith, e)) (passed 3 _ ((4, D) ∷ rows) (λ e. omega (arith, e))
-    (passed 1 _ ((3, z .tasks ≤ t) ∷ (4, D) ∷ rows) (λ e. omega (arith, e)) g))
 
 module _ (z : Sizes) (t : ℕ) (lt : t < z .tasks) where
   -- two tables that the task, Open, cannot tell apart
@@ -80,26 +36,8 @@ module _ (z : Sizes) (t : ℕ) (lt : t < z .tasks) where
     back : (e : Entry) → e ∈ entries z m′ t → e ∈ entries z m t
     back e k = subst (λ (l : List Entry). e ∈ l) (A .same-entries) k
 
-    fresh-same : (a : ℕ) (e e′ : Entry) → Fresh z m t a e → Fresh z m′ t a e′ → e′ ≡ e
-    fresh-same a e e′ F G =
-        same-entry e′ e (G .address ∙ sym (F .address)) old (G .value ∙ ap (λ (s : Seen). s .value) (A .same-logical a) ∙ sym (F .value))
-        (⊎-elim (λ k. G .others (k .0) (there (k .0) (k .1)) (k .2) ∙ sym (F .others (k .0) (k .1) (k .2)))
-        (λ nobody. G .none (λ x. nobody (x .0) (back (x .0) (x .1)) (x .2)) ∙ ap (λ (s : Seen). s .version) old
-        ∙ sym (F .none (λ x. nobody (x .0) (x .1) (x .2))))
-        (on-record? (z .records) (a % z .records) (entries z m t)))
-      where
-        old : e′ .old ≡ e .old
-        old = G .old ∙ A .same-logical a ∙ sym (F .old)
-
-    entered-same : (a : ℕ) (es es′ : List Entry) → Entered z m t a es → Entered z m′ t a es′ → es′ ≡ es
-    entered-same a es es′ E G =
-        ⊎-elim (λ k. G .known (λ new. new (k .0) (there (k .0) (k .1)) (k .2)) ∙ A .same-entries ∙ sym (E .known (λ new. new (k .0) (k .1) (k .2))))
-        (λ new.
-        let x = E .new new in
-        let y = G .new (λ e k. new e (back e k)) in
-        y .2 ∙ ap (λ (l : List Entry). l ++ y .0 ∷ []) (A .same-entries)
-        ∙ ap (λ (e : Entry). entries z m t ++ e ∷ []) (fresh-same a (x .0) (y .0) (x .1) (y .1)) ∙ sym (x .2))
-        (find? a (entries z m t))
+    entered : (a : ℕ) (es es′ : List Entry) → Entered z m t a es → Entered z m′ t a es′ → es′ ≡ es
+    entered a = entered-same z t a m m′ (A .same-entries) (A .same-logical a)
 
     -- The number and the value -----------------------------------------------------------------------------------------------------
 
@@ -112,7 +50,8 @@ module _ (z : Sizes) (t : ℕ) (lt : t < z .tasks) where
         → call z m c .number ≡ 0 → call z m′ c .number ≡ 0
     again-from c rows rows′ f g g′ h =
         one-number (refusals z m′ t (phase m′ t ≢ Open) rows′) _ _ g′
-        (not-refused z m′ t (A .ok′) lt _ rows′ 0 (λ d. d (A .opened′)) (f (past z m t _ rows (subst (Given (refusals z m t (phase m t ≢ Open) rows)) h g))))
+        (not-refused z m′ t (A .ok′) lt _ rows′ 0 (λ d. d (A .opened′))
+        (f (allowed z m t _ 0 rows refl (subst (Given (refusals z m t (phase m t ≢ Open) rows)) h g) .1)))
 
     again-0 : (u : Use) → call z m (useBy t u) .number ≡ 0 → call z m′ (useBy t u) .number ≡ 0
     again-0 (reads a) =
@@ -129,7 +68,8 @@ module _ (z : Sizes) (t : ℕ) (lt : t < z .tasks) where
         let y = call-answers z m′ (RD t a) .1 in
         let h′ = again-0 (reads a) h in
         ⊎-elim (λ k. y .1 h′ (k .0) (there (k .0) (k .1)) (k .2) ∙ sym (x .1 h (k .0) (k .1) (k .2)))
-        (λ new. y .2 h′ (λ e k. new e (back e k)) ∙ ap (λ (s : Seen). s .value) (A .same-logical a) ∙ sym (x .2 h new)) (find? a (entries z m t))
+        (λ new. y .2 h′ (λ e k. new e (back e k)) ∙ ap (λ (s : Seen). s .value) (A .same-logical a) ∙ sym (x .2 h new))
+        (find? (λ e. e .address) a (entries z m t))
 
     -- What is left -----------------------------------------------------------------------------------------------------------------
 
@@ -139,14 +79,13 @@ module _ (z : Sizes) (t : ℕ) (lt : t < z .tasks) where
     again-left (reads a) h =
         let x = requests-leave z m (RD t a) .1 h in
         let y = requests-leave z m′ (RD t a) .1 (again-0 (reads a) h) in
-        (x .0, y .0, entered-same a _ _ (x .1) (y .1))
+        (x .0, y .0, entered a _ _ (x .1) (y .1))
     again-left (writes a v) h =
         let x = requests-leave z m (WR t a v) .1 h in
         let y = requests-leave z m′ (WR t a v) .1 (again-0 (writes a v) h) in (
           x .0,
           y .0,
-          y .5 ∙ map-same (y .3) (x .3) (λ e. written-same (z .records) a v e _ _ (y .4 e) (x .4 e)) (y .1)
-              ∙ ap (map (x .3)) (entered-same a _ _ (x .2) (y .2)) ∙ sym (x .5),
+          y .5 ∙ (λ i. map (λ e. one-written (z .records) a v e (y .3 e) (x .3 e) (y .4 e) (x .4 e) i) (entered a _ _ (x .2) (y .2) i)) ∙ sym (x .5),
         )
 
     alike-on : (u : Use) → call z m (useBy t u) .number ≡ 0 → Alike (call z m (useBy t u) .after) (call z m′ (useBy t u) .after)

@@ -1,26 +1,26 @@
--- After a try that failed and the woken one's end every address has the logical value and version that it had, if the board was plain.
--- A reached board is plain where it is calm.
+-- After a try that failed and the woken one's end every address has the logical value and version that it had, if the board was
+-- plain. A reached board is plain where it is calm.
 use Prim.Native.Nat.{ℕ, _%_, _<_}
 use mathlib.Core.Path.{_≡_, refl, sym, ap, _∙_}
 use mathlib.Core.Logic.{_⊎_, inl, inr, _≢_, ⊎-elim}
 use mathlib.Core.List.{List}
 use mathlib.Core.Bool.{true, false}
 use lib.ListN.{getD}
-use lib.Seq.{ext-getD}
 use native.Mathlib.Omega.{arith}
 use native.Mathlib.Nat.{mod-lt}
-use Rattle.memory.specs.{Sizes, Phase, Idle, Asleep, Writing, Place, Held, Version, Owner, Seen, Entry, Memory, kindOf, steps, committed, place, entry, entries, limit, held, blank, ownedAt, logical, logicalAt, shown, sound, _∈_, phase, KeepsOthers, Use, Calm, Wakes, Rises, Plain, CalmIsPlain, Scene, ours}
+use Rattle.memory.specs.{Sizes, Phase, Idle, Asleep, Writing, Place, Held, Version, Owner, Seen, Entry, Memory, kindOf, steps, committed, place, entries, held, ownedAt, logical, logicalAt, shown, sound, _∈_, phase, KeepsOthers, Use, Calm, Wakes, Rises, Plain, CalmIsPlain, Scene, ours}
+use Rattle.memory.proofs.Codes.{count-of}
 use Rattle.memory.proofs.Find.{find?}
-use Rattle.memory.proofs.Stores.{run-at}
-use Rattle.memory.proofs.Facts.{some-record, entries-count, count-most, owner-task}
-use Rattle.memory.proofs.Answers.{agreed}
+use Rattle.memory.proofs.Stores.{held-from, entry-from}
+use Rattle.memory.proofs.Facts.{some-record, owner-task, owns-none, entries-same}
+use Rattle.memory.proofs.Fresh.{agreed}
 use Rattle.memory.proofs.Meanings.{logical-means}
 use Rattle.memory.proofs.Invariant.{Pending}
 use Rattle.memory.proofs.Look.{clean}
 use Rattle.memory.proofs.View.{view}
 use Rattle.memory.proofs.Good.{logical-right}
 use Rattle.memory.proofs.Serial.{Fine, always}
-use Rattle.memory.proofs.Tables.{is-owner?, count-of, owns-none, held-from, entry-from, keeps-place}
+use Rattle.memory.proofs.Tables.{is-owner?, keeps-place}
 use Rattle.memory.proofs.WholeTurns.{Woke}
 
 -- a reached board on which nobody writes has its logical values in its words
@@ -49,16 +49,6 @@ calm-is-plain = always (λ s. Calm (s .sizes) (s .memory) → Plain (s .sizes) (
 
 -- The logical value and version depend on words, records, and owners -----------------------------------------------------------------------
 
-entries-same : (z : Sizes) (m m′ : Memory) → sound z m ≡ true → sound z m′ ≡ true → (w : ℕ) → w < z .tasks → place m′ w ≡ place m w
-    → ((j : ℕ) → j < limit z → entry z m′ w j ≡ entry z m w j) → entries z m′ w ≡ entries z m w
-entries-same z m m′ ok ok′ w h p f =
-    ext-getD blank (entries z m′ w) (entries z m w) (entries-count z m′ ok′ w h ∙ count ∙ sym (entries-count z m ok w h))
-    (λ i d. let k : i < place m w .count = omega (arith, d, entries-count z m′ ok′ w h, count) in
-    run-at z m′ w (place m′ w .count) i (omega (arith, k, count)) ∙ f i (omega (arith, k, count-most z m ok w h)) ∙ sym (run-at z m w (place m w .count) i k))
-  where
-    count : place m′ w .count ≡ place m w .count
-    count = count-of p
-
 logical-same : (z : Sizes) (m m′ : Memory) (a : ℕ) → m′ .words ≡ m .words → held m′ (a % z .records) ≡ held m (a % z .records)
     → ((w : ℕ) → held m (a % z .records) ≡ Owner w → (place m′ w ≡ place m w) × (entries z m′ w ≡ entries z m w)) → logical z m′ a ≡ logical z m a
 unfolding logical logicalAt
@@ -80,7 +70,7 @@ logical-kept z m m′ t ok ok′ s K a =
     let h : w < z .tasks = owner-task z m ok (a % z .records) w (mod-lt a (some-record z m ok)) q in
     let ne : w ≢ t = λ e. owns-none z m ok w (ap (λ (x : ℕ). steps (phase m x)) e ∙ s) (a % z .records) (mod-lt a (some-record z m ok)) q in
     let p = keeps-place z m m′ t K w ne in
-    (p, entries-same z m m′ ok ok′ w h p (λ j d. K .runs w j ne d)))
+    (p, entries-same z m m′ ok ok′ w h (count-of p) (λ j d. K .runs w j ne d)))
 
 -- A try that failed, and the woken one's end -------------------------------------------------------------------------------------------------
 
@@ -114,8 +104,11 @@ module _ (z : Sizes) (m : Memory) (t : ℕ) (ok : sound z m ≡ true) (idle : ph
     by-others n =
         logical-same z m m₂ a words (woke .kept r low n) (λ w q.
         let not-t : w ≢ t = λ e. owns-none z m ok w (ap (λ (x : ℕ). steps (phase m x)) e ∙ ap steps idle) r low q in
-        let p : place m₂ w ≡ place m w = woke .others w (λ e. n (q ∙ ap Owner e)) in
-        (p, entries-same z m m₂ ok (woke .ok) w (owner-task z m ok r w low q) p (λ j d. entry-from m₁ m₂ z (R .entries-same) w j ∙ W .runs w j not-t d)))
+        let p : place m₂ w ≡ place m w = woke .others w (λ e. n (q ∙ ap Owner e)) in (
+          p,
+          entries-same z m m₂ ok (woke .ok) w (owner-task z m ok r w low q) (count-of p)
+              (λ j d. entry-from m₁ m₂ z (R .entries-same) w j ∙ W .runs w j not-t d),
+        ))
 
     module _ (owned : held m r ≡ Owner u) where
       x : (f : Entry) × f ∈ entries z m u × (f .address % z .records ≡ r) × (held m₂ r ≡ Version (f .old .version))
@@ -133,10 +126,10 @@ module _ (z : Sizes) (m : Memory) (t : ℕ) (ok : sound z m ≡ true) (idle : ph
       was-version =
           ⊎-elim (λ k.
           ap (λ (s : Seen). s .version) (logical-means z m ok a .known u owned (k .0) (k .1) (k .2) ∙ ap (λ (p : Phase). shown p (k .0)) (W .slept))
-          ∙ agreed z m u a ok (owner-task z m ok r u low owned) (k .0) f (k .1) (x .1) (ap (λ (b : ℕ). b % z .records) (k .2) ∙ sym (x .2)))
+          ∙ agreed z m ok u (owner-task z m ok r u low owned) (k .0) f (k .1) (x .1) (ap (λ (b : ℕ). b % z .records) (k .2) ∙ sym (x .2)) .0)
           (λ new.
           ap (λ (s : Seen). s .version) (logical-means z m ok a .beside u owned new f (x .1) (x .2)) ∙ ap (λ (p : Phase). shown p f .version) (W .slept))
-          (find? a (entries z m u))
+          (find? (λ e. e .address) a (entries z m u))
 
       by-woken : logical z m a .value ≡ getD (m .words) a 0 → logical z m₂ a ≡ logical z m a
       by-woken p =

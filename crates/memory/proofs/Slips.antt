@@ -3,7 +3,7 @@ use Prim.Native.Nat.{ℕ, _%_}
 use mathlib.Core.Path.{_≡_, refl, ap, subst⁻¹}
 use mathlib.Core.Logic.{inl, inr, _⊎_}
 use mathlib.Core.List.{List, [], _∷_, _++_, map, List·Memᴰ·head, List·Memᴰ·not-nil, List·Memᴰ·cases-cons}
-use mathlib.Core.Bool.{true, false≢true}
+use mathlib.Core.Bool.{false≢true}
 use lib.ListN.{length, getD, replicate}
 use native.Mathlib.Omega.{arith}
 use borrow.Author.Tests.{eqb-false}
@@ -12,20 +12,11 @@ use Rattle.memory.specs.Slips.{readKeepsSecond, writeKeepsSecond, thousa
 use Rattle.memory.specs.SlipsRefuted.{SlipsAreRefuted}
 use Rattle.memory.proofs.Machine.{machine}
 use Rattle.memory.proofs.Example.{lent}
-use Rattle.memory.proofs.Breaks.{differ, phaseKind, other-read, other-write, other-step, other-opening, met}
+use Rattle.memory.proofs.Breaks.{differ, phaseKind, other-read, other-write, other-step, other-opening, met, after, nothing}
 use Rattle.memory.proofs.SlipsEntries.{rows, six-for-known-read, six-for-known-write, nine-before-six-read, nine-before-six-write, sixty-three-read, sixty-three-write, six-before-five-read, six-before-five-write}
 use Rattle.memory.proofs.SlipsWhole.{sleeper-untouched-a-try, sleeper-untouched-a-turn}
 
 -- Boards --------------------------------------------------------------------------------------------------------------------------
-
--- after calls, from the first version 1
-after : List Call → Memory
-unfolding boardAfter
-after cs = boardAfter (opened small 1) cs
-
--- nothing is lent
-none : Memory
-none = memory [] [] [] []
 
 -- a record has an owner that is no task
 strayOwner : Memory
@@ -74,7 +65,7 @@ free = each (λ e. held first (e .address % four .records) ≡ Version (e .old .
 -- The slips -----------------------------------------------------------------------------------------------------------------------
 
 pub slips-are-refuted : SlipsAreRefuted
-unfolding machine small boardAfter after none strayOwner coming waits four three first third rows lent sleeping writes7 commits late upd
+unfolding machine small boardAfter after nothing strayOwner coming waits four three first third rows lent sleeping writes7 commits late upd
 slips-are-refuted =
     record {
       start-resets-another = λ h. differ (λ (l : List ℕ). getD l 1 0) (h small (after (ST 1 ∷ [])) (ST 0) .places 1 (eqb-false 1 0 refl)) refl;
@@ -92,9 +83,9 @@ slips-are-refuted =
       eight-adds-entry = λ h. differ (λ (m : Memory). place m 0 .count) (h small (boardAfter (opened small topVersion) (ST 0 ∷ [])) (WR 0 1 7) refl) refl;
       thousand-in-write = other-write thousandInWrite small (boardAfter (opened small 1000) (ST 0 ∷ [])) 0 1 7 refl;
       looks-bare-word = λ h. eqb-false 0 7 refl (h small (after (writes7 ++ commits 2)) 1 .2 refl .0);
-      opening-one-first = other-opening openingOneFirst small 0 none refl;
-      thousand-in-opening = other-opening thousandInOpening small 1001 none refl;
-      thirty-one-tasks = other-opening thirtyOneTasks (record { words = 4; records = 2; tasks = 32 }) 1 none refl;
+      opening-one-first = other-opening openingOneFirst small 0 nothing refl;
+      thousand-in-opening = other-opening thousandInOpening small 1001 nothing refl;
+      thirty-one-tasks = other-opening thirtyOneTasks (record { words = 4; records = 2; tasks = 32 }) 1 nothing refl;
       opens-entries-as-lent = λ h. differ (λ (l : List (List ℕ)). length (getD l 0 [])) (h small 1 lent refl .entries) refl;
       opens-with-an-owner = λ h. differ (λ (l : List ℕ). getD l 0 0) (h small 1 lent refl .records) refl;
       opens-unsound = λ h. false≢true (h small 1 lent refl);
@@ -102,9 +93,11 @@ slips-are-refuted =
       third-take-fails = λ h. differ phaseKind (h four third 0 refl (omega arith) .1 (omega arith) refl .own) refl;
       third-take-fails-alone = λ h. differ (λ (l : List ℕ). getD l 6 0) (h four first 0 (omega arith) refl refl free) refl;
       rests-once = λ h. differ phaseKind (h small (after (ST 0 ∷ commits 1)) 0 refl (omega arith) .0 refl .own) refl;
-      rests-once-alone = λ h. differ (λ (l : List ℕ). getD l 2 0) (h small (after (ST 0 ∷ commits 0)) 0 (omega arith) refl refl (λ e k. absurd (List·Memᴰ·not-nil k))) refl;
+      rests-once-alone = λ h.
+          differ (λ (l : List ℕ). getD l 2 0) (h small (after (ST 0 ∷ commits 0)) 0 (omega arith) refl refl (λ e k. absurd (List·Memᴰ·not-nil k))) refl;
       releases-early = λ h. differ numberOf (h small (after (ST 0 ∷ WR 0 0 5 ∷ WR 0 1 7 ∷ commits 3)) 0 refl (omega arith) .1 (omega arith) .records 0) refl;
-      invents-versions = λ h. differ numberOf (h small (leaves ours small (coming (writes7 ++ commits 1)) (SP 1 ∷ [])) 0 refl (omega arith) .1 (omega arith) refl .records .0) refl;
+      invents-versions = λ h.
+          differ numberOf (h small (leaves ours small (coming (writes7 ++ commits 1)) (SP 1 ∷ [])) 0 refl (omega arith) .1 (omega arith) refl .records .0) refl;
       commits-at-once = λ h. eqb-false 7 0 refl (h small (after (writes7 ++ commits 0)) 0 refl (omega arith) .1 (omega arith) refl .words 1);
       committer-untouched = λ h. differ phaseKind (met committerUntouched (coming (writes7 ++ commits 1)) refl refl refl refl h .owner) refl;
       waiter-untouched = λ h. differ phaseKind (met waiterUntouched (coming (waits 1)) refl refl refl refl h .owner) refl;
@@ -120,7 +113,8 @@ slips-are-refuted =
       changes-nothing = λ h. differ phaseKind (h small (after []) (ST 0) refl .0) refl;
       opening-changes-nothing = λ h. differ (λ (l : List ℕ). getD l 0 0) (h small 1 lent refl .words) refl;
       passes-any-owner = λ h. let k = h small strayOwner .0 refl .owners 0 9 (omega arith) refl .task in absurd (omega (arith, k));
-      sees-bare-word = λ h. eqb-false 0 7 refl (ap (λ (s : Seen). s .value) (h small (after (writes7 ++ commits 2)) refl 1 .known 0 refl _ (List·Memᴰ·head refl) refl));
+      sees-bare-word = λ h.
+          eqb-false 0 7 refl (ap (λ (s : Seen). s .value) (h small (after (writes7 ++ commits 2)) refl 1 .known 0 refl _ (List·Memᴰ·head refl) refl));
       only-writers = λ h. differ length (h small 1 lent refl (map request (ST 0 ∷ CM 0 ∷ [])) .decided 0 (omega arith) refl) refl;
       no-commit = λ h. differ length (h small 1 lent refl (map request (ST 0 ∷ CM 0 ∷ [])) .decided 0 (omega arith) refl) refl;
       counts-no-writer = λ h. eqb-false 2 1 refl (h small 1 lent refl (map request (writes7 ++ commits 2)) 1);

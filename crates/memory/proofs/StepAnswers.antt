@@ -28,12 +28,12 @@ on-the-way z m t wrote-all o e = omega (arith, ap kindOf e)
 on-the-way z m t (gives o′ i h x) o e = omega (arith, h, ap positionOf e)
 on-the-way z m t (passes o′ i h x) o e = omega (arith, h, ap positionOf e)
 
-moved-given : (n : ℕ) (p p′ : Phase) → ((o : Outcome) → p ≢ Releasing o n) → Given (ending n p p′) (told p′)
+pub moved-given : (n : ℕ) (p p′ : Phase) → ((o : Outcome) → p ≢ Releasing o n) → Given (ending n p p′) (told p′)
 moved-given n p p′ no-end =
     if-cases (Given (ending n p p′)) (wakes p′) _ _ (λ c. inl (is-asleep p′ c, refl))
     (λ c. inr (λ e. false≢true (sym c ∙ ap wakes e), inr (no-end Committed, inr (no-end Failed, inr (no-end Woken, refl)))))
 
-ended-given : (n : ℕ) (o : Outcome) → Given (ending n (Releasing o n) Idle) (endNumber o)
+pub ended-given : (n : ℕ) (o : Outcome) → Given (ending n (Releasing o n) Idle) (endNumber o)
 ended-given n Committed = inr (λ e. omega (arith, ap kindOf e), inl (refl, refl))
 ended-given n Failed = inr (λ e. omega (arith, ap kindOf e), inr (λ e. omega (arith, ap whichOf e), inl (refl, refl)))
 ended-given n Woken = inr (λ e. omega (arith, ap kindOf e), inr (λ e. omega (arith, ap whichOf e), inr (λ e. omega (arith, ap whichOf e), inl (refl, refl))))

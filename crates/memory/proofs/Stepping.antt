@@ -1,21 +1,18 @@
 -- What a step leaves, and what it makes of others: it strikes the owner that it meets, and moves no other task's place.
-use Prim.Native.Nat.{ℕ, _<_, _≤_}
+use Prim.Native.Nat.{ℕ, _<_}
 use mathlib.Core.Path.{_≡_, refl, sym, ap, _∙_, subst, subst⁻¹}
 use mathlib.Core.Logic.{_⊎_, inl, inr, _≢_}
 use mathlib.Core.Bool.{true, false, true≢false}
 use lib.ListN.{length}
 use lib.Seq.{getD-set-same, getD-set-other}
 use native.Mathlib.Omega.{arith}
-use Rattle.memory.specs.{if_then_else_, Sizes, Goal, Outcome, Committed, Failed, Woken, Phase, Idle, Open, Taking, Asleep, Writing, Releasing, Held, Version, Owner, Memory, kindOf, steps, place, moved, bare, entry, held, heldOf, numberOf, topVersion, setWord, setHeld, setPlace, move, sound, Reply, fails, wakes, clash, step, SP, call, ours, phase, word, Same, ButAt, Left, final, Steps, StepsLeave, struck, Meets, Clash, ClashesEnd}
+use Rattle.memory.specs.{if_then_else_, Sizes, Goal, Failed, Woken, Phase, Idle, Open, Taking, Asleep, Writing, Releasing, Held, Owner, Memory, kindOf, steps, place, moved, bare, entry, held, heldOf, numberOf, setWord, setHeld, setPlace, move, sound, Reply, fails, wakes, clash, step, SP, call, ours, phase, word, Same, ButAt, Left, Steps, StepsLeave, struck, Meets, Clash, ClashesEnd}
 use Rattle.memory.proofs.Tools.{same?, both}
-use Rattle.memory.proofs.Codes.{version-back, owner-back, not-owner, owner-inj}
+use Rattle.memory.proofs.Codes.{version-back, owner-back, not-owner, owner-inj, version-inj}
 use Rattle.memory.proofs.Cases.{asked-4}
 use Rattle.memory.proofs.Stores.{place-same, place-other, held-same, held-other, clash-cases, clash-other}
-use Rattle.memory.proofs.Facts.{words-length, in-places, in-records, entry-fits}
+use Rattle.memory.proofs.Facts.{words-length, in-places, in-records, entry-fits, final-fits}
 use Rattle.memory.proofs.Went.{not-steps, recordAt, owner-inside, Does, takes, has, late, meets, chooses, writes, wrote-all, gives, passes, Went, moves, rests, ends, step-goes, lands, keeps-entries}
-
-version-inj : (v w : ℕ) → Version v ≡ Version w → v ≡ w
-version-inj v w e = cc
 
 module _ (z : Sizes) (m : Memory) (t : ℕ) (ok : sound z m ≡ true) (lt : t < z .tasks) where
   abbrev n : ℕ
@@ -37,33 +34,32 @@ module _ (z : Sizes) (m : Memory) (t : ℕ) (ok : sound z m ≡ true) (lt : t < 
       let h = in-records z m ok (entry z m t i .address) in
       left d (λ a. unfold setHeld in refl) (held-same m (recordAt z m t i) k h c, held-other m (recordAt z m t i) k h c)
 
-  final-fits : (o : Outcome) (i : ℕ) → i < n → final o (entry z m t i) ≤ topVersion
-  final-fits Committed i h = entry-fits z m ok t lt i h .2
-  final-fits Failed i h = entry-fits z m ok t lt i h .1
-  final-fits Woken i h = entry-fits z m ok t lt i h .1
-
   word-stored : (i : ℕ) → i < n → (v : ℕ) → ButAt (entry z m t i .address) v (word m) (word (setWord m (entry z m t i .address) v))
   unfolding setWord
-  word-stored i h v = (getD-set-same (m .words) _ v 0 (omega (arith, words-length z m ok, entry-fits z m ok t lt i h .0)), λ b ne. getD-set-other (m .words) _ b v 0 ne)
+  word-stored i h v =
+      (getD-set-same (m .words) _ v 0 (omega (arith, words-length z m ok, entry-fits z m ok t lt i h .0)), λ b ne. getD-set-other (m .words) _ b v 0 ne)
+
+  short-of : {A : Type 0} {i : ℕ} → i < n → i ≡ n → A
+  short-of h x = absurd (omega (arith, h, x))
 
   leaves : {p : Phase} {r : Reply} → Went z m t p r → Steps z m t (r .after) p
   leaves (moves (takes g i h e)) = (
-    λ x. absurd (omega (arith, h, x)),
+    short-of h,
     λ _ _. record-left i (Owner t) (owner-back t) (takes g i h e),
     λ _ x. not-owner _ _ (sym e ∙ x),
     λ _ v x ne. absurd (ne (version-inj _ _ (sym x ∙ e))),
   )
   leaves (moves (has g i h e)) =
-      (λ x. absurd (omega (arith, h, x)), λ _ x. not-owner _ _ (sym x ∙ e), λ _ _. same-left (has g i h e), λ _ v x ne. not-owner _ _ (sym x ∙ e))
+      (short-of h, λ _ x. not-owner _ _ (sym x ∙ e), λ _ _. same-left (has g i h e), λ _ v x ne. not-owner _ _ (sym x ∙ e))
   leaves (moves (late g i h v e ne)) =
-      (λ x. absurd (omega (arith, h, x)), λ _ x. absurd (ne (version-inj _ _ (sym e ∙ x))), λ _ x. not-owner _ _ (sym e ∙ x), λ _ w x _. same-left (late g i h v e ne))
+      (short-of h, λ _ x. absurd (ne (version-inj _ _ (sym e ∙ x))), λ _ x. not-owner _ _ (sym e ∙ x), λ _ w x _. same-left (late g i h v e ne))
   leaves (moves (meets g i h u e ne)) =
-      (λ x. absurd (omega (arith, h, x)), λ _ x. not-owner _ _ (sym x ∙ e), λ _ x. absurd (ne (owner-inj _ _ (sym e ∙ x))), λ _ v x _. not-owner _ _ (sym x ∙ e))
+      (short-of h, λ _ x. not-owner _ _ (sym x ∙ e), λ _ x. absurd (ne (owner-inj _ _ (sym e ∙ x))), λ _ v x _. not-owner _ _ (sym x ∙ e))
   leaves (moves (chooses g)) = (λ _. same-left (chooses g), λ h. absurd (omega arith), λ h. absurd (omega arith), λ h. absurd (omega arith))
-  leaves (moves (writes i h)) = (λ x. absurd (omega (arith, h, x)), λ _. left (writes i h) (word-stored i h _) (λ r. unfold setWord held in refl))
+  leaves (moves (writes i h)) = (short-of h, λ _. left (writes i h) (word-stored i h _) (λ r. unfold setWord held in refl))
   leaves (moves wrote-all) = (λ _. same-left wrote-all, λ h. absurd (omega arith))
-  leaves (moves (gives o i h e)) = (λ x. absurd (omega (arith, h, x)), λ _ _. record-left i _ (version-back _ (final-fits o i h)) (gives o i h e), λ _ x. absurd (x e))
-  leaves (moves (passes o i h ne)) = (λ x. absurd (omega (arith, h, x)), λ _ x. absurd (ne x), λ _ _. same-left (passes o i h ne))
+  leaves (moves (gives o i h e)) = (short-of h, λ _ _. record-left i _ (version-back _ (final-fits z m ok t lt o i h)) (gives o i h e), λ _ x. absurd (x e))
+  leaves (moves (passes o i h ne)) = (short-of h, λ _ x. absurd (ne x), λ _ _. same-left (passes o i h ne))
   leaves rests = refl
   leaves (ends o) = (
     λ _. unfold setPlace held in record { own = place-same m t (bare 0 Idle) (in-places z m ok t lt); words = λ a. refl; records = λ r. refl; entries = refl },
@@ -94,8 +90,8 @@ struck-place z m u h = go (phase m u) refl
   where
     P : Phase → Type 0
     P p =
-        place (if fails p then setPlace m u (moved (place m u) (Releasing Failed 0)) else if wakes p then setPlace m u (moved (place m u) (Releasing Woken 0)) else m) u
-        ≡ moved (place m u) (struck p)
+        let to : Phase → Memory = λ q. setPlace m u (moved (place m u) q) in
+        place (if fails p then to (Releasing Failed 0) else if wakes p then to (Releasing Woken 0) else m) u ≡ moved (place m u) (struck p)
 
     go : (p : Phase) → phase m u ≡ p → P p
     go Idle e = ap (moved (place m u)) e

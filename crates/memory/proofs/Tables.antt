@@ -1,16 +1,15 @@
--- Parts of a place; two tables with a list in common show the same; what two sound tables show tells the lists.
-use Prim.Native.Nat.{ℕ, _+_, _<_}
+-- What two sound tables show tells their lists, and what a change leaves.
+use Prim.Native.Nat.{ℕ, _<_}
 use mathlib.Core.Path.{_≡_, sym, ap, _∙_, subst⁻¹}
 use mathlib.Core.Logic.{_⊎_, inl, inr, _≢_}
-use mathlib.Core.List.{List, []}
-use mathlib.Core.Bool.{true, false, true≢false}
+use mathlib.Core.Bool.{true}
 use lib.ListN.{getD}
 use lib.Seq.{ext-getD}
 use native.Mathlib.Omega.{arith}
-use Rattle.memory.specs.{Sizes, Place, Held, Version, Owner, Memory, steps, place, placeOf, entry, entryOf, runStart, held, heldOf, numberOf, sound, phase, KeepsOthers, Same, ButAt, word}
-use Rattle.memory.proofs.Tools.{same?}
+use Rattle.memory.specs.{Sizes, Held, Version, Owner, Memory, place, placeOf, held, numberOf, sound, KeepsOthers, Same, ButAt, word}
+use Rattle.memory.proofs.Tools.{same?, everywhere}
 use Rattle.memory.proofs.Codes.{not-owner, owner-inj, number-back}
-use Rattle.memory.proofs.Facts.{words-length, records-length, owner-steps}
+use Rattle.memory.proofs.Facts.{words-length, records-length}
 
 pub is-owner? : (h : Held) (t : ℕ) → (h ≡ Owner t) ⊎ (h ≢ Owner t)
 is-owner? (Version v) t = inr (λ e. not-owner v t e)
@@ -19,25 +18,6 @@ is-owner? (Owner u) t = go (same? u t)
     go : (u ≡ t) ⊎ (u ≢ t) → (Owner u ≡ Owner t) ⊎ (Owner u ≢ Owner t)
     go (inl e) = inl (ap Owner e)
     go (inr n) = inr (λ e. n (owner-inj u t e))
-
-pub count-of : {p q : Place} → p ≡ q → p .count ≡ q .count
-count-of e = ap (λ (x : Place). x .count) e
-
-pub phase-of : {p q : Place} → p ≡ q → p .phase ≡ q .phase
-phase-of e = ap (λ (x : Place). x .phase) e
-
--- an owner is a task that steps
-pub owns-none : (z : Sizes) (m : Memory) → sound z m ≡ true → (u : ℕ) → steps (phase m u) ≡ false → (r : ℕ) → r < z .records → held m r ≢ Owner u
-owns-none z m ok u s r h q = true≢false (sym (owner-steps z m ok r u h q) ∙ s)
-
-module _ (m m′ : Memory) where
-  pub held-from : m′ .records ≡ m .records → (r : ℕ) → held m′ r ≡ held m r
-  unfolding held
-  held-from e r = ap (λ (l : List ℕ). heldOf (getD l r 0)) e
-
-  pub entry-from : (z : Sizes) → m′ .entries ≡ m .entries → (t j : ℕ) → entry z m′ t j ≡ entry z m t j
-  unfolding entry
-  entry-from z e t j = ap (λ (l : List (List ℕ)). entryOf (getD l (runStart z t + j) [])) e
 
 pub keeps-place : (z : Sizes) (m m′ : Memory) (t : ℕ) → KeepsOthers z m t m′ → (w : ℕ) → w ≢ t → place m′ w ≡ place m w
 unfolding place
@@ -59,8 +39,4 @@ module _ {A : Type 0} (P : ℕ → A → Type 0) (f f′ : ℕ → A) (h : (k : 
   same-all s k = subst⁻¹ (P k) (s k) (h k)
 
   pub but-all : (i : ℕ) (x : A) → ButAt i x f f′ → P i x → (k : ℕ) → P k (f′ k)
-  but-all i x s new k = go (same? k i)
-    where
-      go : (k ≡ i) ⊎ (k ≢ i) → P k (f′ k)
-      go (inl e) = subst⁻¹ (λ (j : ℕ). P j (f′ j)) e (subst⁻¹ (P i) (s .0) new)
-      go (inr ne) = subst⁻¹ (P k) (s .1 k ne) (h k)
+  but-all i x s new = everywhere (λ k. P k (f′ k)) i (subst⁻¹ (P i) (s .0) new) (λ k ne. subst⁻¹ (P k) (s .1 k ne) (h k))

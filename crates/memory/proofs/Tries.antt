@@ -1,5 +1,5 @@
--- A try: Start, Reads and Writes, Commit, and steps. With no owner about it commits; on a calm table it commits, or wakes the first sleeper that
--- it meets.
+-- A try: Start, Reads and Writes, Commit, and steps. With no owner about it commits; on a calm table it commits, or wakes the first
+-- sleeper that it meets.
 use Prim.Native.Nat.{ℕ, zero, suc, _+_, _*_, _%_, _<_, _≤_}
 use mathlib.Core.Path.{_≡_, refl, sym, ap, _∙_, subst⁻¹}
 use mathlib.Core.Logic.{_⊎_, inl, inr, _≢_, ⊎-elim}
@@ -10,8 +10,9 @@ use native.Mathlib.Omega.{arith}
 use native.Mathlib.Nat.{mod-lt}
 use Rattle.memory.specs.{Sizes, Phase, Idle, Asleep, Place, Held, Version, Owner, Memory, isIdle, steps, place, entry, held, bare, moved, sound, CM, SP, call, leaves, numbers, _∈_, phase, thenAnswers, FromTheStartItCommits, Use, struck, Calm, body, try, addressOf, entered, AllZero, LastSays, Through, Wakes, ATryEnds, ours}
 use Rattle.memory.proofs.Tools.{same?, map-in}
-use Rattle.memory.proofs.Facts.{some-record, idle-0, owner-task}
-use Rattle.memory.proofs.Tables.{owns-none, held-from, entry-from, keeps-place}
+use Rattle.memory.proofs.Stores.{held-from, entry-from}
+use Rattle.memory.proofs.Facts.{some-record, idle-0, owner-task, owns-none}
+use Rattle.memory.proofs.Tables.{keeps-place}
 use Rattle.memory.proofs.Runs.{leaves-append, says-then, Reaches}
 use Rattle.memory.proofs.Takes.{Free}
 use Rattle.memory.proofs.Alone.{Over, commits}

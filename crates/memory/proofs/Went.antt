@@ -8,14 +8,14 @@ use lib.ListN.{length}
 use native.Mathlib.Omega.{arith}
 use native.Mathlib.Nat.{mod-lt}
 use borrow.Author.Tests.{ltb-true, ltb-false, eqb-true, eqb-false}
-use Rattle.memory.specs.{if_then_else_, Sizes, Goal, Commit, Sleep, Outcome, Committed, Failed, Woken, Phase, Idle, Open, Taking, Asleep, Writing, Releasing, Place, Held, Version, Owner, Entry, Memory, positionOf, steps, place, entry, held, bare, moved, setWord, setHeld, setPlace, move, sound, Reply, reply, refused, refusal, wakes, clash, meet, takeStep, decide, released, endNumber, releaseStep, stepIn, step, SP, call, decided, final}
+use Rattle.memory.specs.{if_then_else_, Sizes, Goal, Commit, Sleep, Outcome, Committed, Failed, Phase, Idle, Open, Taking, Asleep, Writing, Releasing, Place, Held, Version, Owner, Memory, positionOf, steps, place, entry, held, bare, moved, setWord, setHeld, setPlace, move, sound, Reply, reply, refused, refusal, wakes, clash, meet, takeStep, decide, endNumber, releaseStep, stepIn, step, SP, call, decided, final}
 use Rattle.memory.proofs.Tools.{if-cases}
-use Rattle.memory.proofs.Codes.{not-owner, owner-inj}
+use Rattle.memory.proofs.Codes.{not-owner, owner-inj, final-is}
 use Rattle.memory.proofs.Cases.{asked-cases, asked-0}
 use Rattle.memory.proofs.Stores.{place-same, clash-other, clash-length, clash-entries}
 use Rattle.memory.proofs.Facts.{some-record, in-places, position-n, owner-task}
 
--- a task that does not step is Idle or Open
+-- a task that does not step is Idle or Open, and one that does is neither
 pub not-steps : (p : Phase) → steps p ≡ false → (p ≡ Idle) ⊎ (p ≡ Open)
 not-steps Idle s = inl refl
 not-steps Open s = inr refl
@@ -23,6 +23,10 @@ not-steps (Taking g i) s = absurd (true≢false s)
 not-steps Asleep s = absurd (true≢false s)
 not-steps (Writing i) s = absurd (true≢false s)
 not-steps (Releasing o i) s = absurd (true≢false s)
+
+pub steps-not : (p : Phase) → steps p ≡ true → (p ≡ Idle) ⊎ (p ≡ Open) → ⊥
+steps-not p s (inl e) = true≢false (sym s ∙ ap steps e)
+steps-not p s (inr e) = true≢false (sym s ∙ ap steps e)
 
 -- the number of a step that moves its task on
 abbrev pub told : Phase → ℕ
@@ -100,11 +104,6 @@ module _ (z : Sizes) (m : Memory) (t : ℕ) (ok : sound z m ≡ true) (lt : t < 
       P : Memory → Type 0
       P m′ = Went z m t (Releasing o i) (reply 0 0 m′)
 
-      final-is : (o : Outcome) (e : Entry) → released o e ≡ final o e
-      final-is Committed e = refl
-      final-is Failed e = refl
-      final-is Woken e = refl
-
       release : i < c → (k : Held) → held m (recordAt z m t i) ≡ k → P (releaseStep m t o i (recordAt z m t i) (entry z m t i) k)
       release h (Version v) q = unfold releaseStep in moves (passes o i h (λ x. not-owner v t (sym q ∙ x)))
       release h (Owner u) q = unfold releaseStep in
@@ -125,20 +124,22 @@ module _ (z : Sizes) (m : Memory) (t : ℕ) (ok : sound z m ≡ true) (lt : t < 
   moved-to m₁ p l = place-same m₁ t (moved (place m₁ t) p) (subst⁻¹ (λ (k : ℕ). t < k) l (in-places z m ok t lt))
 
   -- what the stores leave alone
-  abbrev Aside : Memory → Type 0
-  Aside m₁ = (place m₁ t ≡ place m t) × (length (m₁ .places) ≡ length (m .places)) × (m₁ .entries ≡ m .entries)
+  abbrev Aside : Memory → Phase → Type 0
+  Aside m₁ p′ =
+      (place m₁ t ≡ place m t) × (length (m₁ .places) ≡ length (m .places)) × (m₁ .entries ≡ m .entries)
+      × ((m₁ .places ≡ m .places) ⊎ (p′ ≡ Releasing Failed 0))
 
-  aside : {p p′ : Phase} {m₁ : Memory} → Does z m t p m₁ p′ → Aside m₁
+  aside : {p p′ : Phase} {m₁ : Memory} → Does z m t p m₁ p′ → Aside m₁ p′
   unfolding setHeld setWord place
-  aside (takes g i h e) = (refl, refl, refl)
-  aside (has g i h e) = (refl, refl, refl)
-  aside (late g i h v e x) = (refl, refl, refl)
-  aside (meets g i h u e x) = (clash-other z m u t (λ q. x (sym q)), clash-length z m u, clash-entries z m u)
-  aside (chooses g) = (refl, refl, refl)
-  aside (writes i h) = (refl, refl, refl)
-  aside wrote-all = (refl, refl, refl)
-  aside (gives o i h e) = (refl, refl, refl)
-  aside (passes o i h e) = (refl, refl, refl)
+  aside (takes g i h e) = (refl, refl, refl, inl refl)
+  aside (has g i h e) = (refl, refl, refl, inl refl)
+  aside (late g i h v e x) = (refl, refl, refl, inl refl)
+  aside (meets g i h u e x) = (clash-other z m u t (λ q. x (sym q)), clash-length z m u, clash-entries z m u, inr refl)
+  aside (chooses g) = (refl, refl, refl, inl refl)
+  aside (writes i h) = (refl, refl, refl, inl refl)
+  aside wrote-all = (refl, refl, refl, inl refl)
+  aside (gives o i h e) = (refl, refl, refl, inl refl)
+  aside (passes o i h e) = (refl, refl, refl, inl refl)
 
   pub lands : {p p′ : Phase} {m₁ : Memory} → Does z m t p m₁ p′ → place (move m₁ t p′) t ≡ moved (place m t) p′
   lands {p′ = p′} {m₁ = m₁} d = moved-to m₁ p′ (aside d .1) ∙ ap (λ (q : Place). moved q p′) (aside d .0)
@@ -146,6 +147,10 @@ module _ (z : Sizes) (m : Memory) (t : ℕ) (ok : sound z m ≡ true) (lt : t < 
   pub keeps-entries : {p p′ : Phase} {m₁ : Memory} → Does z m t p m₁ p′ → move m₁ t p′ .entries ≡ m .entries
   unfolding move setPlace
   keeps-entries d = aside d .2
+
+  -- another's place is moved on only where the task fails
+  pub moves-alone : {p p′ : Phase} {m₁ : Memory} → Does z m t p m₁ p′ → (m₁ .places ≡ m .places) ⊎ (p′ ≡ Releasing Failed 0)
+  moves-alone d = aside d .3
 
 -- the owner of an entry's record is one of the tasks
 pub owner-inside : (z : Sizes) (m : Memory) → sound z m ≡ true → (t i u : ℕ) → held m (recordAt z m t i) ≡ Owner u → u < length (m .places)

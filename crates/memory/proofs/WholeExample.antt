@@ -1,15 +1,16 @@
--- The hypotheses of a whole turn are met and its count is exact: K8's board, where task 1 sleeps on record 1, and task 0 writes 7 at 3 as whole turns.
+-- The hypotheses of a whole turn are met and its count is exact: K8's board, where task 1 sleeps on record 1, and task 0 writes 7
+-- at 3 as whole turns.
 use mathlib.Core.Path.{_≡_, refl}
 use mathlib.Core.List.{List, [], _∷_, _++_}
 use mathlib.Core.Bool.{true}
 use Rattle.memory.specs.{Idle, Asleep, Memory, sound, opened, SP, ours, numbers, small, boardAfter, sleeping, phase, Use, writes, body, try, AllZero, inTheWay}
 use Rattle.memory.proofs.Machine.{machine}
 
-board : Memory
-unfolding machine small boardAfter sleeping
+unfoldable pub board : Memory
+unfolding boardAfter
 board = boardAfter (opened small 1) sleeping
 
-us : List Use
+unfoldable pub us : List Use
 us = writes 3 7 ∷ []
 
 hypotheses : (sound small board ≡ true) × (phase board 0 ≡ Idle) × (phase board 1 ≡ Asleep) × AllZero ours small board (body 0 us)

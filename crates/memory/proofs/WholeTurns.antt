@@ -8,10 +8,12 @@ use native.Mathlib.Omega.{arith}
 use native.Mathlib.Nat.{mod-lt}
 use borrow.Author.Tests.{eq-eqb, ne-eqb}
 use Rattle.memory.specs.{Sizes, Idle, Asleep, Place, Held, Version, Owner, Entry, Memory, kindOf, steps, place, entry, entries, held, sound, _∈_, bit, phase, Use, Calm, body, addressOf, AllZero, Through, Wakes, Rises, isOwner, ownsOne, howMany, inTheWay, ComesThrough, WholeTurnsComeThrough, ours}
-use Rattle.memory.proofs.Tools.{same?, in-map, or-left-make, or-right-make}
-use Rattle.memory.proofs.Facts.{some-record, count-most, owner-task, owner-entry}
+use Rattle.memory.proofs.Tools.{same?, in-map, or-left-make, or-right-make, everywhere}
+use Rattle.memory.proofs.Codes.{count-of, phase-of}
+use Rattle.memory.proofs.Stores.{held-from}
+use Rattle.memory.proofs.Facts.{some-record, count-most, owner-task, owner-entry, owns-none}
 use Rattle.memory.proofs.Fresh.{entry-in}
-use Rattle.memory.proofs.Tables.{is-owner?, count-of, phase-of, owns-none, held-from}
+use Rattle.memory.proofs.Tables.{is-owner?}
 use Rattle.memory.proofs.Runs.{leaves-sound}
 use Rattle.memory.proofs.LetGo.{the-woken-ends}
 use Rattle.memory.proofs.Tries.{a-try-ends}
@@ -67,13 +69,12 @@ not-mine (Owner w) u n = ne-eqb w u (λ e. n (ap Owner e))
 
 -- a task comes to Idle, and every other one stays: then it is calm on
 calm-on : (z : Sizes) (m m′ : Memory) (u : ℕ) → Calm z m → phase m′ u ≡ Idle → ((w : ℕ) → w ≢ u → place m′ w ≡ place m w) → Calm z m′
-calm-on z m m′ u calm idle others w h = go (same? w u)
-  where
-    go : (w ≡ u) ⊎ (w ≢ u) → (phase m′ w ≡ Idle) ⊎ (phase m′ w ≡ Asleep)
-    go (inl s) = inl (ap (phase m′) s ∙ idle)
-    go (inr s) = subst⁻¹ (λ (q : Place). (q .phase ≡ Idle) ⊎ (q .phase ≡ Asleep)) (others w s) (calm w h)
+calm-on z m m′ u calm idle others =
+    everywhere (λ w. w < z .tasks → (phase m′ w ≡ Idle) ⊎ (phase m′ w ≡ Asleep)) u (λ _. inl idle)
+    (λ w s h. subst⁻¹ (λ (q : Place). (q .phase ≡ Idle) ⊎ (q .phase ≡ Asleep)) (others w s) (calm w h))
 
--- A try that failed and the woken one's end: what the woken one owned has an old version of its entries, and nothing else has changed.
+-- A try that failed and the woken one's end: what the woken one owned has an old version of its entries, and nothing else has
+-- changed.
 pub record Woke (z : Sizes) (m : Memory) (t : ℕ) (us : List Use) : Type 0 where
   pub u : ℕ
   pub m₁ : Memory

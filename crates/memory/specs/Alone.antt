@@ -17,8 +17,8 @@ use Rattle.memory.specs.Answers.{phase}
 abbrev pub thenAnswers : ℕ → ℕ → List ℕ
 thenAnswers k n = replicate k 0 ++ n ∷ []
 
--- §8.1, on any sound table: a task whose Commit was just answered, with n entries, where each entry's record holds the version that it was
--- read at. The task's next 3n + 3 calls, all steps and nobody else's between, answer 0 and the last of them 21.
+-- §8.1, on any sound table: a task whose Commit was just answered, with n entries, where each entry's record holds the version that
+-- it was read at. The task's next 3n + 3 calls, all steps and nobody else's between, answer 0 and the last of them 21.
 abbrev pub AloneItCommits : Machine → Type 0
 AloneItCommits M = (z : Sizes) (m : Memory) (t : ℕ) → t < z .tasks → sound z m ≡ true → phase m t ≡ Taking Commit 0
     → ((e : Entry) → e ∈ entries z m t → held m (e .address % z .records) ≡ Version (e .old .version))

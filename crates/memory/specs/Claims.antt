@@ -1,4 +1,5 @@
--- What is promised: every claim by its name, in the order of docs/PROMISES.md, with the file that says it. proofs/Promises.antt keeps them.
+-- What is promised: every claim by its name, in the order of docs/PROMISES.md, with the file that says it. proofs/Promises.antt
+-- keeps them.
 use mathlib.Core.Path.{_≡_}
 use Rattle.memory.specs.Pieces.{Memory}
 use Rattle.memory.specs.Logical.{logical}
@@ -45,8 +46,8 @@ pub record EveryClaim : Type 1 where
   pub looks-are-serial : LooksAreSerial
   pub committed-is-listed : CommittedIsListed listed
   pub reached-is-sound : ReachedIsSound
-  -- The first and the second: thirteen claims (Answers, Effects, Stepping, Kept) fix the machine, and each is needed (Fixed, Thirteen). Slips
-  -- break them or another claim (Slips, SlipsRefuted).
+  -- The first and the second: thirteen claims (Answers, Effects, Stepping, Kept) fix the machine, and each is needed (Fixed,
+  -- Thirteen). Slips break them or another claim (Slips, SlipsRefuted).
   pub ours-is-promised : Promised ours
   pub one-machine : OneMachine
   pub it-is-ours : (M : Machine) → Promised M → M ≡ ours

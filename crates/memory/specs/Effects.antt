@@ -1,4 +1,5 @@
--- §6, §5.3: what a request and an opening leave where they are not refused: in the task's own place and entries, and in the rows that hold them.
+-- §6, §5.3: what a request and an opening leave where they are not refused: in the task's own place and entries, and in the rows
+-- that hold them.
 use Prim.Native.Nat.{ℕ, suc, _+_, _*_, _%_, _<_, _≤_}
 use mathlib.Core.Path.{_≡_}
 use mathlib.Core.Logic.{_≢_}

@@ -33,7 +33,8 @@ Says opening-is-sound M = OpeningIsSound M
 abbrev pub Promised : Machine → Type 0
 Promised M = (c : Claim) → Says c M
 
--- Two machines that meet the claims answer alike and leave the same memory, whatever the sizes, the memory and the call: they are one.
+-- Two machines that meet the claims answer alike and leave the same memory, whatever the sizes, the memory and the call: they are
+-- one.
 abbrev pub OneMachine : Type 0
 OneMachine = (M N : Machine) → Promised M → Promised N → M ≡ N
 

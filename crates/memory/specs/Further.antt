@@ -1,4 +1,5 @@
--- Further positions beside K1 to K11, as one list: a sleeper's steps, clashes, refusals, and each limit at its number and one past it.
+-- Further positions beside K1 to K11, as one list: a sleeper's steps, clashes, refusals, and each limit at its number and one past
+-- it.
 use Prim.Native.Nat.{ℕ, zero, suc, _*_}
 use mathlib.Core.List.{List, [], _∷_, _++_}
 use mathlib.Core.Bool.{Bool, true, false, _&&_}

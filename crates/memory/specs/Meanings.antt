@@ -49,8 +49,8 @@ pub record SoundEntry (z : Sizes) (e : Entry) : Type 0 where
   pub new : (1 ≤ e .new .version) × (e .new .version ≤ topVersion)
   pub raised : (e .new .version ≡ e .old .version) ⊎ (e .new .version ≡ suc (e .old .version))
 
--- §10.3, §10.4, §10.6. A task: its row is the encoding of its place, its position is within its entries, and no two entries are for one address or differ
--- in the versions of one record.
+-- §10.3, §10.4, §10.6. A task: its row is the encoding of its place, its position is within its entries, and no two entries are for
+-- one address or differ in the versions of one record.
 pub record SoundTask (z : Sizes) (m : Memory) (t : ℕ) : Type 0 where
   pub row : (q : Place) × (getD (m .places) t [] ≡ rowOf q)
   pub few : place m t .count ≤ limit z
@@ -98,8 +98,8 @@ shown (Releasing Committed i) e = e .new
 shown (Releasing Failed i) e = e .old
 shown (Releasing Woken i) e = e .old
 
--- §4.2 to §4.4: the word under a version; what the owner's entry shows; and where the owner has entries on the record but none for the address, the
--- word with the version that they show
+-- §4.2 to §4.4: the word under a version; what the owner's entry shows; and where the owner has entries on the record but none for
+-- the address, the word with the version that they show
 pub record LogicalAt (z : Sizes) (m : Memory) (a : ℕ) (s : Seen) : Type 0 where
   pub free : (v : ℕ) → held m (a % z .records) ≡ Version v → s ≡ record { value = getD (m .words) a 0; version = v }
   pub known : (t : ℕ) → held m (a % z .records) ≡ Owner t → (e : Entry) → e ∈ entries z m t → e .address ≡ a → s ≡ shown (phase m t) e

@@ -27,9 +27,9 @@ value s a = logical (s .sizes) (s .memory) a .value
 abbrev pub stamp : Scene → ℕ → ℕ
 stamp s a = logical (s .sizes) (s .memory) a .version
 
--- §15.7 to §15.9. Each listed transaction, at its turn on the board left by those before it, finds what it took. The board that all leave is the
--- logical board. An address's version has gone up once for each of them that wrote to its record. And while a task sleeps, what it
--- used is as it first saw it, value and version.
+-- §15.7 to §15.9. Each listed transaction, at its turn on the board left by those before it, finds what it took. The board that all
+-- leave is the logical board. An address's version has gone up once for each of them that wrote to its record. And while a task
+-- sleeps, what it used is as it first saw it, value and version.
 pub record Serial (s : Scene) : Type 0 where
   pub finds : AllFind zeros (listed (s .notes))
   pub leaves : (a : ℕ) → value s a ≡ board zeros (listed (s .notes)) a
@@ -49,8 +49,8 @@ LooksAreSerial = Always LookedUp
 
 -- Who is in the list -------------------------------------------------------------------------------------------------------------
 
--- §15.6. Of a way to make a list of a run's notes: a step answers 21 only where the transaction's log is in the list. The deciding step of
--- a commit puts it there, whatever it read or wrote, and no other call changes the list.
+-- §15.6. Of a way to make a list of a run's notes: a step answers 21 only where the transaction's log is in the list. The deciding
+-- step of a commit puts it there, whatever it read or wrote, and no other call changes the list.
 pub record Listed (lists : Notes → List (List Op)) (s : Scene) : Type 0 where
   pub committed : (t : ℕ) → call (s .sizes) (s .memory) (SP t) .number ≡ 21 → s .notes .logs t ∈ lists (s .notes)
   pub decided : (t : ℕ) → t < s .sizes .tasks → phase (s .memory) t ≡ Taking Commit (place (s .memory) t .count)

@@ -10,8 +10,8 @@ use Rattle.memory.specs.Answers.{phase}
 use Rattle.memory.specs.Order.{Always, Sleeps, value}
 
 -- The values told to a transaction that committed stood together on one board, that left by the transactions listed before it. The
--- values told to a transaction that sleeps stand together on the logical board. Whatever is then called, it sleeps on or is woken, and
--- the values still stand: a change of any of them comes later.
+-- values told to a transaction that sleeps stand together on the logical board. Whatever is then called, it sleeps on or is woken,
+-- and the values still stand: a change of any of them comes later.
 pub record Spoken (s : Scene) : Type 0 where
   pub committed : (later before : List (List Op)) (l : List Op) → listed (s .notes) ≡ later ++ l ∷ before → (a v : ℕ) → Told a v l → board zeros before a ≡ v
   pub asleep : (t : ℕ) → Sleeps s t → (a v : ℕ) → Told a v (s .notes .logs t) → value s a ≡ v

@@ -1,4 +1,5 @@
--- §14: slips. More wrong machines, and wrong histories, each ours but for what its line says. SlipsRefuted says which claim each breaks.
+-- §14: slips. More wrong machines, and wrong histories, each ours but for what its line says. SlipsRefuted says which claim each
+-- breaks.
 use Prim.Native.Nat.{ℕ, suc, _+_, _*_, _%_}
 use mathlib.Core.Path.{_≡_}
 use mathlib.Core.List.{List, [], _∷_}
@@ -8,7 +9,7 @@ use lib.ListN.{replicate}
 use Rattle.memory.specs.Pieces.{if_then_else_, Sizes, Commit, Sleep, Committed, Failed, Idle, Phase, Taking, Asleep, Writing, Releasing, Held, Version, Owner, Seen, Entry, Memory, memory, is, committed, positionOf, codeOf, phaseOf, held, place, bare, entry, setHeld, setPlace, setEntry, move}
 use Rattle.memory.specs.Logical.{logical}
 use Rattle.memory.specs.Sound.{allBelow, sizesOk, lengthsOk, taskOk}
-use Rattle.memory.specs.Numbers.{Reply, reply, refused}
+use Rattle.memory.specs.Numbers.{reply, refused}
 use Rattle.memory.specs.Requests.{looked, openBoard, look, fresh, added, overtaken, known, store}
 use Rattle.memory.specs.Step.{fails, wakes}
 use Rattle.memory.specs.Calls.{call}

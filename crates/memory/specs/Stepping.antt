@@ -1,4 +1,5 @@
--- §7: what a step leaves, phase by phase: in the task's own place, the words, the records and the entries; and what it makes of others.
+-- §7: what a step leaves, phase by phase: in the task's own place, the words, the records and the entries; and what it makes of
+-- others.
 use Prim.Native.Nat.{ℕ, suc, _%_, _<_}
 use mathlib.Core.Path.{_≡_}
 use mathlib.Core.Logic.{_⊎_, _≢_}
@@ -54,7 +55,8 @@ module _ (z : Sizes) (m : Memory) (t : ℕ) (m′ : Memory) where
   abbrev pub Holds : ℕ → Held → Place → Type 0
   Holds r h q = Left m t m′ q Same (ButAt r h)
 
-  -- §7.4 to §7.14. A step of an Idle or Open task is refused: `RefusalsKeep` speaks of it. A record that another task owns is `ClashesEnd`'s.
+  -- §7.4 to §7.14. A step of an Idle or Open task is refused: `RefusalsKeep` speaks of it. A record that another task owns is
+  -- `ClashesEnd`'s.
   abbrev pub Steps : Phase → Type 0
   Steps Idle = Unit {0}
   Steps Open = Unit {0}

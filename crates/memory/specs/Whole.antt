@@ -1,4 +1,5 @@
--- §16.4, §16.5, whole turns: the calls of a transaction, with nobody else's between. It comes through, after one try for each sleeper in its way.
+-- §16.4, §16.5, whole turns: the calls of a transaction, with nobody else's between. It comes through, after one try for each
+-- sleeper in its way.
 use Prim.Native.Nat.{ℕ, zero, suc, _+_, _*_, _%_, _<_}
 use mathlib.Core.Path.{_≡_}
 use mathlib.Core.Logic.{_⊎_, _≢_}
@@ -119,8 +120,8 @@ module _ (M : Machine) where
       → ((m′ : Memory) × Through z m t us m′ × Calm z m′)
       ⊎ ((u : ℕ) × (m₁ m₂ : Memory) × Wakes z m t us u m₁ × Rises z m₁ u m₂ × Calm z m₂ × ComesThrough z t area k m₂)
 
-  -- On any sound table where every task is Idle or Asleep, a turn comes through: with k sleepers that own a record of its addresses, at
-  -- try k + 1 or before.
+  -- On any sound table where every task is Idle or Asleep, a turn comes through: with k sleepers that own a record of its
+  -- addresses, at try k + 1 or before.
   abbrev pub WholeTurnsComeThrough : Type 0
   WholeTurnsComeThrough = (z : Sizes) (m : Memory) (t : ℕ) → t < z .tasks → sound z m ≡ true → Calm z m → phase m t ≡ Idle
       → (area : List ℕ) → ComesThrough z t area (inTheWay z m area) m

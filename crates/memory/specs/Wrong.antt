@@ -41,9 +41,6 @@ calling f = record { call = f; openBoard = openBoard; look = look }
 abbrev pub starting : Twist → Machine
 starting f = calling (twisted f straight straight straight straight (λ a. straight) (λ a v. straight))
 
-abbrev pub committing : Twist → Machine
-committing f = calling (twisted straight f straight straight straight (λ a. straight) (λ a v. straight))
-
 abbrev pub aborting : Twist → Machine
 aborting f = calling (twisted straight straight f straight straight (λ a. straight) (λ a v. straight))
 
