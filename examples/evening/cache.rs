@@ -5,9 +5,10 @@
 //! through a trade.
 
 use crate::layout::{houses, mortgaged, owner, TILES, TILE_WORDS};
-use crate::turns::pass;
+use crate::ledger::Line;
 use crate::wording::{self, TileState};
-use crate::world::{Line, World};
+use crate::world::World;
+use chezumobari::pass;
 use std::collections::VecDeque;
 
 pub struct Cache {
@@ -52,11 +53,10 @@ pub async fn cached_voice(world: &World) {
     loop {
         let next = cache.borrow_mut().next();
         if let Some((tile, state)) = next {
-            if state != world.serial_tile(tile) {
+            if state != world.ledger.tile(tile) {
                 cache.borrow_mut().wrong.push((tile, state));
             }
-            let text = wording::label(tile, state);
-            world.lines.borrow_mut().push(Line::Label { tile, state, text });
+            world.ledger.lines.borrow_mut().push(Line::Label(wording::label(tile, state)));
         }
         pass().await;
     }

@@ -3,27 +3,26 @@
 
 use crate::layout::*;
 use crate::rules::chance;
-use crate::turns::rest;
-use crate::voice::until;
 use crate::world::World;
+use chezumobari::rest;
 
 pub async fn hand(world: &World, player: usize) {
     let task = FIRST_HAND + player;
     loop {
-        let [question, tile] = until(world, task, [bell(player), asked_tile(player)], |[bell, _]| bell != 0).await;
+        let [question, tile] = world.until(task, [bell(player), asked_tile(player)], |[bell, _]| bell != 0).await;
         if player == FAR_PLAYER {
             rest(40).await;
         }
-        let turn = world.look(TURN).await;
+        let turn = world.look(TURN);
         let reply = match question {
             BUY => buy(world, player, tile as usize).await,
             MANAGE => manage(world, player, turn).await,
-            _ => consider(world, player, turn).await,
+            _ => consider(world, player, turn),
         };
         world
-            .atomically(task, async |t| {
-                t.write(bell(player), 0).await?;
-                t.write(answer(player), reply).await?;
+            .atomically(task, |t| {
+                t.write(bell(player), 0)?;
+                t.write(answer(player), reply)?;
                 Ok(())
             })
             .await;
@@ -34,12 +33,12 @@ pub async fn hand(world: &World, player: usize) {
 async fn buy(world: &World, player: usize, tile: usize) -> u32 {
     let price = price(tile).unwrap_or(0);
     world
-        .atomically(FIRST_HAND + player, async |t| {
-            if t.read(owner(tile)).await? != 0 || t.read(cash(player)).await? < price + 50 {
+        .atomically(FIRST_HAND + player, |t| {
+            if t.read(owner(tile))? != 0 || t.read(cash(player))? < price + 50 {
                 return Ok(NO);
             }
-            t.pay(cash(player), BANK, price).await?;
-            t.write(owner(tile), player as u32 + 1).await?;
+            t.pay(cash(player), BANK, price)?;
+            t.write(owner(tile), player as u32 + 1)?;
             t.tell(format!("{} buys {} for {price}.", NAMES[player], TILES[tile].name));
             Ok(YES)
         })
@@ -47,10 +46,10 @@ async fn buy(world: &World, player: usize, tile: usize) -> u32 {
 }
 
 /// What a player owns, by looking: owner and mortgage of every tile.
-async fn survey(world: &World) -> Vec<(usize, u32, u32)> {
+fn survey(world: &World) -> Vec<(usize, u32, u32)> {
     let mut seen = Vec::new();
     for tile in estate() {
-        seen.push((tile, world.look(owner(tile)).await, world.look(mortgaged(tile)).await));
+        seen.push((tile, world.look(owner(tile)), world.look(mortgaged(tile))));
     }
     seen
 }
@@ -58,7 +57,7 @@ async fn survey(world: &World) -> Vec<(usize, u32, u32)> {
 /// Builds or pays a mortgage off, and now and then has a trade to offer.
 async fn manage(world: &World, player: usize, turn: u32) -> u32 {
     let me = player as u32 + 1;
-    let seen = survey(world).await;
+    let seen = survey(world);
     let mine = |tile: usize| seen.iter().any(|&(t, owner, debt)| t == tile && owner == me && debt == 0);
     let site = estate().filter(|&tile| house_price(tile).is_some() && group_of(tile).into_iter().all(mine)).last();
     if let Some(tile) = site {
@@ -80,7 +79,7 @@ async fn manage(world: &World, player: usize, turn: u32) -> u32 {
 async fn build(world: &World, player: usize, group: Vec<usize>) {
     let mut least = (6, 0);
     for tile in group {
-        least = least.min((world.look(houses(tile)).await, tile));
+        least = least.min((world.look(houses(tile)), tile));
     }
     let (count, tile) = least;
     let cost = house_price(tile).unwrap_or(0);
@@ -88,10 +87,10 @@ async fn build(world: &World, player: usize, group: Vec<usize>) {
         return;
     }
     world
-        .atomically(FIRST_HAND + player, async |t| {
-            if t.read(cash(player)).await? >= cost + 150 {
-                t.pay(cash(player), BANK, cost).await?;
-                t.write(houses(tile), count + 1).await?;
+        .atomically(FIRST_HAND + player, |t| {
+            if t.read(cash(player))? >= cost + 150 {
+                t.pay(cash(player), BANK, cost)?;
+                t.write(houses(tile), count + 1)?;
                 t.tell(format!("{} builds on {} for {cost}.", NAMES[player], TILES[tile].name));
             }
             Ok(())
@@ -102,10 +101,10 @@ async fn build(world: &World, player: usize, group: Vec<usize>) {
 async fn redeem(world: &World, player: usize, tile: usize) {
     let debt = price(tile).unwrap_or(0) / 2;
     world
-        .atomically(FIRST_HAND + player, async |t| {
-            if t.read(cash(player)).await? >= debt + 300 {
-                t.pay(cash(player), BANK, debt).await?;
-                t.write(mortgaged(tile), 0).await?;
+        .atomically(FIRST_HAND + player, |t| {
+            if t.read(cash(player))? >= debt + 300 {
+                t.pay(cash(player), BANK, debt)?;
+                t.write(mortgaged(tile), 0)?;
                 t.tell(format!("{} pays off the mortgage on {}.", NAMES[player], TILES[tile].name));
             }
             Ok(())
@@ -139,9 +138,9 @@ fn ring(world: &World, player: usize, turn: u32, seen: &[(usize, u32, u32)]) -> 
 
 async fn propose(world: &World, player: usize, offer: [usize; 6]) -> u32 {
     world
-        .atomically(FIRST_HAND + player, async |t| {
+        .atomically(FIRST_HAND + player, |t| {
             for (i, &word) in offer.iter().enumerate() {
-                t.write(OFFER + i, word as u32).await?;
+                t.write(OFFER + i, word as u32)?;
             }
             Ok(YES)
         })
@@ -149,12 +148,12 @@ async fn propose(world: &World, player: usize, offer: [usize; 6]) -> u32 {
 }
 
 /// Agrees to a trade unless the tile to be given is worth far more than the one to be had.
-async fn consider(world: &World, player: usize, turn: u32) -> u32 {
+fn consider(world: &World, player: usize, turn: u32) -> u32 {
     let (mut gives, mut gets) = (0, 0);
     for i in 0..3 {
-        let giver = world.look(OFFER + i).await as usize;
-        let taker = world.look(OFFER + (i + 1) % 3).await as usize;
-        let value = price(world.look(OFFER + 3 + i).await as usize).unwrap_or(0);
+        let giver = world.look(OFFER + i) as usize;
+        let taker = world.look(OFFER + (i + 1) % 3) as usize;
+        let value = price(world.look(OFFER + 3 + i) as usize).unwrap_or(0);
         if giver == player {
             gives = value;
         }

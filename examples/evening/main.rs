@@ -1,40 +1,47 @@
 //! An evening with the screen dark: a whole game, from the first roll to a winner.
 //!
-//! Rules, four hands, the network and 26 labels are tasks that a scheduler gives one step each in
-//! turn. Every label that is spoken is checked against the serial board at the moment of its commit.
-//! Then the same game is played once more with labels cached per tile, and the cache's labels that
-//! were not the board are counted.
+//! Rules, four hands, the network and 26 labels are tasks that a scheduler gives turns to. A
+//! transaction is one whole turn. Every label is checked against the serial board as it is spoken.
+//! Then the same game is played once more with labels cached per tile and a commit given one step a
+//! turn, and the cache's labels that were not the board are counted.
 
 mod cache;
 mod debts;
 mod hand;
+mod lateness;
 mod layout;
+mod ledger;
 mod network;
 #[path = "../../tests/random.rs"]
 #[allow(dead_code)]
 mod random;
+mod report;
 mod rules;
-mod turns;
 mod voice;
 mod wording;
 mod world;
 
-use layout::PLAYERS;
+use chezumobari::Scheduler;
+use lateness::Lateness;
+use layout::{FIRST_HAND, FIRST_LABEL, NETWORK, PLAYERS, RULES};
+use ledger::{Counts, Line};
+use report::{Report, TurnTaken};
 use std::io::{ErrorKind, Write};
 use std::path::Path;
 use std::process::{Command, ExitCode};
 use std::time::Instant;
-use turns::{take_turns, Work};
-use world::{Counts, Line, World};
+use world::World;
 
 const HELP: &str = "evening: a game with the screen dark, told in words
 
   --seed N          which evening to play (default 1)
   --evenings N      play N evenings, from the seed on, and print only the counts
+  --measured        with --evenings: measure times with care, and print every figure
   --labels WHICH    sleeping (default) or cached: whose labels the transcript has
   --speak FILE.wav  have espeak-ng speak the transcript into a file
 
 --labels and --speak are for one evening, so they do not go with --evenings.
+--measured is for many.
 Exit status: 0 played; 1 the evening was not spoken, or not told to its end; 2 an argument is wrong.";
 
 /// What ends the program early.
@@ -52,6 +59,7 @@ struct Wish {
     help: bool,
     seed: Option<u64>,
     evenings: Option<u64>,
+    measured: bool,
     cached: Option<bool>,
     speak: Option<String>,
 }
@@ -60,37 +68,58 @@ struct Wish {
 struct Evening {
     lines: Vec<Line>,
     counts: Counts,
+    lateness: Lateness,
+    turns: Vec<TurnTaken>,
     cache_spoke: u64,
     cache_wrong: u64,
     cache_never: u64,
 }
 
+/// No evening takes so many rounds, unless two tasks fail each other for ever.
+const MOST_ROUNDS: u64 = 100_000;
+
+/// Gives turns until the rules have come to an end.
+fn take_turns(world: &World, mut scheduler: Scheduler<'_>, rules: usize) -> Vec<TurnTaken> {
+    let mut turns = Vec::new();
+    while !scheduler.has_ended(rules) {
+        let next = scheduler.choose().expect("somebody is awake until the game is over");
+        let round = scheduler.rounds();
+        assert!(round < MOST_ROUNDS, "the evening does not end");
+        world.ledger.count(|c| c.rounds = round);
+        let (before, began) = (world.ledger.counts.get().calls, Instant::now());
+        scheduler.give(next);
+        let (time, calls) = (began.elapsed(), world.ledger.counts.get().calls - before);
+        turns.push(TurnTaken { round, calls, time });
+    }
+    turns
+}
+
 /// Plays one game. With a cache there are no label tasks: the cached voice speaks instead.
 fn play(seed: u64, cached: bool) -> Evening {
     let world = World::new(seed, cached);
-    let mut tasks: Vec<Work> = vec![Box::pin(rules::rules(&world))];
+    let mut scheduler = Scheduler::new(&world.shared);
+    let rules = scheduler.add(RULES, rules::rules(&world));
     for player in 0..PLAYERS {
-        tasks.push(Box::pin(hand::hand(&world, player)));
+        scheduler.add(FIRST_HAND + player, hand::hand(&world, player));
     }
-    tasks.push(Box::pin(network::network(&world)));
+    scheduler.add(NETWORK, network::network(&world));
     if cached {
-        tasks.push(Box::pin(cache::cached_voice(&world)));
+        scheduler.add_other(cache::cached_voice(&world));
     } else {
         for (which, tile) in layout::estate().enumerate() {
-            tasks.push(Box::pin(voice::label(&world, which, tile)));
+            scheduler.add(FIRST_LABEL + which, voice::label(&world, which, tile));
         }
     }
-    let rounds = take_turns(tasks);
-    world.count(|c| c.rounds = rounds);
+    let turns = take_turns(&world, scheduler, rules);
     let (mut cache_spoke, mut cache_wrong, mut cache_never) = (0, 0, 0);
     if let Some(cache) = &world.cache {
         let cache = cache.borrow();
         cache_spoke = cache.spoken;
         cache_wrong = cache.wrong.len() as u64;
-        cache_never = cache.wrong.iter().filter(|&&(tile, state)| !world.has_been(tile, state)).count() as u64;
+        cache_never = cache.wrong.iter().filter(|&&(tile, state)| !world.ledger.has_been(tile, state)).count() as u64;
     }
-    let lines = world.lines.take();
-    Evening { lines, counts: world.counts.get(), cache_spoke, cache_wrong, cache_never }
+    let (lines, lateness) = (world.ledger.lines.take(), world.ledger.lateness.take());
+    Evening { lines, counts: world.ledger.counts.get(), lateness, turns, cache_spoke, cache_wrong, cache_never }
 }
 
 /// What happened in the game, without the labels.
@@ -110,7 +139,7 @@ fn transcript(evening: &Evening) -> String {
     for line in &evening.lines {
         match line {
             Line::Event(event) => text += event,
-            Line::Label { text: label, .. } => text += &format!("Label. {label}"),
+            Line::Label(label) => text += &format!("Label. {label}"),
         }
         text.push('\n');
     }
@@ -135,11 +164,12 @@ fn one_evening(wish: &Wish) -> Result<(), Stop> {
     tell(&format!(
         "{told}
 Evening {seed}. To hear it again: --seed {seed}.
-{} labels were spoken, and each was the board at its commit.
+{} labels were spoken, and each was the board when it was spoken, {} rounds after the change at the latest.
 The same game with labels cached per tile: {} labels, {} of them not the board, {} of these a board that never was.
 {} transactions committed, {} failed and were tried again, sleepers were woken {} times, and the network sent the money {} times.
 ",
         counts.labels,
+        lateness::share(&sleeping.lateness.rounds, 1000),
         cached.cache_spoke,
         cached.cache_wrong,
         cached.cache_never,
@@ -179,8 +209,9 @@ fn speak_into(text: &str, say: &Path, spoken: &Path) -> Result<(), String> {
     }
 }
 
-fn many_evenings(first: u64, evenings: u64) -> Result<(), Stop> {
-    let (mut labels, mut spoke, mut wrong, mut never, mut calls, mut without) = (0, 0, 0, 0, 0, 0);
+/// Plays evenings and says what came of them. Measured, those that take longest are played again.
+fn many_evenings(first: u64, evenings: u64, measured: bool) -> Result<(), Stop> {
+    let mut report = Report::default();
     let mut said = Instant::now();
     for seed in first..first + evenings {
         if said.elapsed().as_secs() >= 5 {
@@ -188,22 +219,11 @@ fn many_evenings(first: u64, evenings: u64) -> Result<(), Stop> {
             said = Instant::now();
         }
         let (sleeping, cached) = play_both(seed);
-        labels += sleeping.counts.labels;
-        calls += sleeping.counts.calls + cached.counts.calls;
-        spoke += cached.cache_spoke;
-        wrong += cached.cache_wrong;
-        never += cached.cache_never;
-        without += u64::from(cached.cache_never == 0);
+        report.add(&sleeping, &cached);
+        report.add_turns(sleeping.turns, if measured { 20 } else { 1 }, || play(seed, false).turns);
     }
-    tell(&format!(
-        "{evenings} evenings, seeds {first} to {}.
-{labels} labels were spoken, and each was the board at its commit.
-The same games with labels cached per tile: {spoke} labels, {wrong} of them not the board, {never} of these a board that never was.
-{without} evenings had no such label.
-{calls} calls of the library.
-",
-        first + evenings - 1
-    ))
+    let figures = if measured { report.figures() } else { String::new() };
+    tell(&format!("{evenings} evenings, seeds {first} to {}.\n{report}{figures}", first + evenings - 1))
 }
 
 /// What the words ask for.
@@ -216,6 +236,7 @@ fn wish(mut words: impl Iterator<Item = String>) -> Result<Wish, String> {
             "--help" | "-h" => wish.help = true,
             "--seed" => wish.seed = Some(number(value()?)?),
             "--evenings" => wish.evenings = Some(number(value()?)?),
+            "--measured" => wish.measured = true,
             "--labels" => {
                 wish.cached = Some(match value()?.as_str() {
                     "cached" => true,
@@ -228,6 +249,7 @@ fn wish(mut words: impl Iterator<Item = String>) -> Result<Wish, String> {
         }
     }
     match (wish.evenings, &wish.speak, wish.cached) {
+        (None, ..) if wish.measured => Err("--measured goes with --evenings".to_string()),
         (Some(0), ..) => Err("--evenings takes 1 or more".to_string()),
         (Some(_), Some(_), _) => Err("--speak is for one evening, and does not go with --evenings".to_string()),
         (Some(_), _, Some(_)) => Err("--labels is for one evening, and does not go with --evenings".to_string()),
@@ -242,7 +264,7 @@ fn run() -> Result<(), Stop> {
     let wish = wish(std::env::args().skip(1)).map_err(Stop::Usage)?;
     match wish.evenings {
         _ if wish.help => tell(&format!("{HELP}\n")),
-        Some(evenings) => many_evenings(wish.seed.unwrap_or(1), evenings),
+        Some(evenings) => many_evenings(wish.seed.unwrap_or(1), evenings, wish.measured),
         None => one_evening(&wish),
     }
 }
@@ -255,4 +277,23 @@ fn main() -> ExitCode {
     };
     eprintln!("evening: {text}");
     ExitCode::from(status)
+}
+
+#[cfg(test)]
+mod tests {
+    use super::*;
+
+    /// No livelock, every label the board (the ledger sees to that), and in time.
+    #[test]
+    fn labels_speak_in_time() {
+        for seed in 1..=20 {
+            let (sleeping, cached) = play_both(seed);
+            let late = &sleeping.lateness;
+            assert!(sleeping.counts.rounds < 10_000, "evening {seed} took {} rounds", sleeping.counts.rounds);
+            assert!(cached.counts.rounds < 50_000, "evening {seed} took {} rounds", cached.counts.rounds);
+            assert!(lateness::share(&late.rounds, 990) <= 1, "evening {seed}: {}", lateness::in_words(&late.rounds));
+            assert!(lateness::share(&late.rounds, 1000) <= 4, "evening {seed}: {}", lateness::in_words(&late.rounds));
+            assert_eq!((late.overtaken, late.unspoken), (0, 0), "evening {seed}");
+        }
+    }
 }

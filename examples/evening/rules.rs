@@ -3,8 +3,8 @@
 use crate::debts::{settle, Bill};
 use crate::layout::*;
 use crate::random::Random;
-use crate::voice::until;
-use crate::world::{Again, Transaction, World};
+use crate::world::{Transaction, World};
+use chezumobari::Refusal;
 
 /// Random numbers for one matter of one turn. They do not depend on how often a transaction was tried.
 pub fn chance(world: &World, turn: u32, matter: u64) -> Random {
@@ -19,10 +19,10 @@ pub async fn rules(world: &World) {
     let mut turn = 0;
     loop {
         for player in 0..PLAYERS {
-            if world.look(out(player)).await == 1 {
+            if world.look(out(player)) == 1 {
                 continue;
             }
-            if alone(world, player).await {
+            if alone(world, player) {
                 finish(world, player, turn).await;
                 return;
             }
@@ -34,10 +34,10 @@ pub async fn rules(world: &World) {
 
 async fn open_the_bank(world: &World) {
     world
-        .atomically(RULES, async |t| {
-            t.write(BANK, BANK_CASH).await?;
+        .atomically(RULES, |t| {
+            t.write(BANK, BANK_CASH)?;
             for player in 0..PLAYERS {
-                t.write(cash(player), FIRST_CASH).await?;
+                t.write(cash(player), FIRST_CASH)?;
             }
             t.tell(format!("Four players sit down: {}. Each has {FIRST_CASH}.", NAMES.join(", ")));
             Ok(())
@@ -45,9 +45,9 @@ async fn open_the_bank(world: &World) {
         .await;
 }
 
-async fn alone(world: &World, player: usize) -> bool {
+fn alone(world: &World, player: usize) -> bool {
     for other in 0..PLAYERS {
-        if other != player && world.look(out(other)).await == 0 {
+        if other != player && world.look(out(other)) == 0 {
             return false;
         }
     }
@@ -56,8 +56,8 @@ async fn alone(world: &World, player: usize) -> bool {
 
 async fn finish(world: &World, player: usize, turns: u32) {
     world
-        .atomically(RULES, async |t| {
-            let money = t.read(cash(player)).await?;
+        .atomically(RULES, |t| {
+            let money = t.read(cash(player))?;
             t.tell(format!("{} wins after {turns} turns, with {money}.", NAMES[player]));
             Ok(())
         })
@@ -74,7 +74,7 @@ async fn play_turn(world: &World, player: usize, turn: u32) {
         Kind::News => news(world, player, turn).await,
         Kind::GoToJail | Kind::Quiet => None,
     };
-    if price(tile).is_some() && world.look(owner(tile)).await == 0 {
+    if price(tile).is_some() && world.look(owner(tile)) == 0 {
         ask(world, [player], BUY, tile).await;
     } else if let Some(bill) = bill {
         if !settle(world, player, bill, turn).await {
@@ -92,27 +92,27 @@ async fn roll(world: &World, player: usize, turn: u32) -> Option<usize> {
     let (one, two) = (1 + random.below(6), 1 + random.below(6));
     let name = NAMES[player];
     world
-        .atomically(RULES, async |t| {
-            t.write(TURN, turn).await?;
-            if t.read(jailed(player)).await? == 1 {
-                t.write(jailed(player), 0).await?;
+        .atomically(RULES, |t| {
+            t.write(TURN, turn)?;
+            if t.read(jailed(player))? == 1 {
+                t.write(jailed(player), 0)?;
                 t.tell(format!("Turn {turn}. {name} waits in jail."));
                 return Ok(None);
             }
-            let from = t.read(position(player)).await? as usize;
+            let from = t.read(position(player))? as usize;
             let to = (from + one + two) % TILES.len();
             t.tell(format!("Turn {turn}. {name} rolls {one} and {two} and comes to {}.", TILES[to].name));
             if to < from {
-                t.pay(BANK, cash(player), SALARY).await?;
+                t.pay(BANK, cash(player), SALARY)?;
                 t.tell(format!("{name} passes Start and gets {SALARY}."));
             }
             if TILES[to].kind == Kind::GoToJail {
-                t.write(position(player), JAIL as u32).await?;
-                t.write(jailed(player), 1).await?;
+                t.write(position(player), JAIL as u32)?;
+                t.write(jailed(player), 1)?;
                 t.tell(format!("{name} goes to jail."));
                 return Ok(None);
             }
-            t.write(position(player), to as u32).await?;
+            t.write(position(player), to as u32)?;
             Ok(Some(to))
         })
         .await
@@ -125,8 +125,8 @@ async fn news(world: &World, player: usize, turn: u32) -> Option<Bill> {
         return Some(Bill::Fine(amount));
     }
     world
-        .atomically(RULES, async |t| {
-            t.pay(BANK, cash(player), amount).await?;
+        .atomically(RULES, |t| {
+            t.pay(BANK, cash(player), amount)?;
             t.tell(format!("Good news: {} gets {amount}.", NAMES[player]));
             Ok(())
         })
@@ -137,28 +137,28 @@ async fn news(world: &World, player: usize, turn: u32) -> Option<Bill> {
 /// Rings the bell of some players with a question, and sleeps until all have answered.
 async fn ask<const N: usize>(world: &World, players: [usize; N], question: u32, tile: usize) -> [u32; N] {
     world
-        .atomically(RULES, async |t| {
+        .atomically(RULES, |t| {
             for player in players {
-                t.write(bell(player), question).await?;
-                t.write(asked_tile(player), tile as u32).await?;
-                t.write(answer(player), 0).await?;
+                t.write(bell(player), question)?;
+                t.write(asked_tile(player), tile as u32)?;
+                t.write(answer(player), 0)?;
             }
             Ok(())
         })
         .await;
-    until(world, RULES, players.map(answer), |answers| answers.iter().all(|&a| a != 0)).await
+    world.until(RULES, players.map(answer), |answers| answers.iter().all(|&a| a != 0)).await
 }
 
 /// An offer stands on the board. The two others are asked, and if both agree it is done, all at once.
 async fn offer(world: &World) {
     let mut ring = [0; 6];
     for (i, word) in ring.iter_mut().enumerate() {
-        *word = world.look(OFFER + i).await as usize;
+        *word = world.look(OFFER + i) as usize;
     }
     let [first, second, third, ..] = ring;
     if ask(world, [second, third], CONSIDER, 0).await != [YES, YES] {
         world
-            .atomically(RULES, async |t| {
+            .atomically(RULES, |t| {
                 t.tell(format!("{} offers a trade, and it is declined.", NAMES[first]));
                 Ok(())
             })
@@ -166,11 +166,11 @@ async fn offer(world: &World) {
         return;
     }
     world
-        .atomically(RULES, async |t| {
+        .atomically(RULES, |t| {
             let mut text = String::from("A trade among three:");
             for i in 0..3 {
                 let (giver, taker, tile) = (ring[i], ring[(i + 1) % 3], ring[3 + i]);
-                hand_over(&t, giver, taker, tile).await?;
+                hand_over(t, giver, taker, tile)?;
                 let mark = if i < 2 { ";" } else { "." };
                 text += &format!(" {} gives {} to {}{mark}", NAMES[giver], TILES[tile].name, NAMES[taker]);
             }
@@ -181,17 +181,17 @@ async fn offer(world: &World) {
 }
 
 /// One tile changes hands. Its houses are sold for the giver, and the taker pays its mortgage off.
-async fn hand_over(t: &Transaction<'_>, giver: usize, taker: usize, tile: usize) -> Result<(), Again> {
-    let state = t.tile(tile).await?;
-    t.write(owner(tile), taker as u32 + 1).await?;
+fn hand_over(t: &mut Transaction<'_, '_>, giver: usize, taker: usize, tile: usize) -> Result<(), Refusal> {
+    let state = t.tile(tile)?;
+    t.write(owner(tile), taker as u32 + 1)?;
     if state.houses > 0 {
-        t.write(houses(tile), 0).await?;
-        t.pay(BANK, cash(giver), state.houses * house_price(tile).unwrap_or(0) / 2).await?;
+        t.write(houses(tile), 0)?;
+        t.pay(BANK, cash(giver), state.houses * house_price(tile).unwrap_or(0) / 2)?;
     }
     let debt = price(tile).unwrap_or(0) / 2;
-    if state.mortgaged == 1 && t.read(cash(taker)).await? >= debt {
-        t.write(mortgaged(tile), 0).await?;
-        t.pay(cash(taker), BANK, debt).await?;
+    if state.mortgaged == 1 && t.read(cash(taker))? >= debt {
+        t.write(mortgaged(tile), 0)?;
+        t.pay(cash(taker), BANK, debt)?;
     }
     Ok(())
 }

@@ -10,56 +10,55 @@
 //! # A label that sleeps on its tile
 //!
 //! ```
-//! use chezumobari::{Board, Outcome, Progress, Sizes};
+//! use chezumobari::{Board, End, Label, Sizes};
 //!
 //! const OWNER: usize = 0;
 //! const HOUSES: usize = 1;
 //! let (label, trade) = (0, 1);
 //! let mut board = Board::open(Sizes { words: 2, records: 2, tasks: 2 }, 1)?;
 //!
-//! // The label reads its tile and sleeps on it.
-//! board.task(label).start()?;
-//! assert_eq!(board.task(label).read(OWNER)?, 0);
-//! assert_eq!(board.task(label).read(HOUSES)?, 0);
-//! board.task(label).wait()?;
-//! assert_eq!(board.task(label).settle()?, Progress::Asleep);
+//! // The label reads its tile, sleeps on it, and has something to say.
+//! let mut label = Label::new(label, |open| Ok((open.read(OWNER)?, open.read(HOUSES)?)));
+//! assert_eq!(label.turn(&mut board)?, Some(&(0, 0)));
+//! assert_eq!(label.turn(&mut board)?, None);
 //!
-//! // A trade comes. Its first attempt wakes the label and fails; the second one commits.
-//! let mut attempts = 0;
-//! loop {
-//!     attempts += 1;
-//!     board.task(trade).start()?;
-//!     board.task(trade).write(OWNER, 2)?;
-//!     board.task(trade).commit()?;
-//!     if board.task(trade).settle()? == Progress::Ended(Outcome::Committed) {
-//!         break;
-//!     }
-//!     assert_eq!(board.task(label).settle()?, Progress::Ended(Outcome::Woken));
-//! }
-//! assert_eq!(attempts, 2);
+//! // A trade comes. Its first try wakes the label and fails; the second one commits. It is one turn.
+//! let turn = board.turn(trade, |open| {
+//!     open.write(OWNER, 2)?;
+//!     Ok(End::Commit(()))
+//! })?;
+//! assert_eq!(turn.tries, 2);
 //!
-//! // The label reads again: this is the board.
-//! board.task(label).start()?;
-//! assert_eq!(board.task(label).read(OWNER)?, 2);
+//! // The label's next turn: this is the board.
+//! assert_eq!(label.turn(&mut board)?, Some(&(2, 0)));
 //! # Ok::<(), chezumobari::Refusal>(())
 //! ```
 //!
 //! # What to know before the first game
 //!
-//! - A clash fails the task that comes, and wakes or fails the owner that it meets, unless that owner
-//!   is already writing or releasing. So try again after [`Outcome::Failed`], and let a woken task
-//!   rest a while before it sleeps on the same words again.
+//! - Make each transaction one whole turn: [`Board::turn`], or [`Shared::turn`] for tasks that are
+//!   futures. Then it comes through, after one try for each sleeper in its way. A body that must wait
+//!   in its middle takes [`Shared::span`], which keeps a line of those that have failed.
+//! - The calls by themselves are [`Board::task`]. There a clash fails the task that comes, and wakes
+//!   or fails the owner that it meets, unless that owner is already writing or releasing. Trying
+//!   again at once may then go on for ever, and so may trying again after a rest.
 //! - Two tasks cannot sleep on one record. An address belongs to record `address % records`.
 //! - A transaction has at most [`ENTRIES_PER_TASK`] addresses.
 //! - Every call checks the four tables first. `docs/SPEED.md` says what that costs.
 
 mod board;
 mod numbers;
+mod saved;
 mod tables;
+mod tasks;
+mod turns;
 
 pub use board::{Board, Phase, Seen, Task};
 pub use numbers::{Outcome, Progress, Refusal};
+pub use saved::NotLoaded;
 pub use tables::{Answer, Looked, Sizes, Tables};
+pub use tasks::{pass, rest, Scheduler, Shared, Spanning};
+pub use turns::{End, Ended, Label, Longest, Open, Stepped, Turn};
 
 /// The version of this package. That of the header and of the archive is the same.
 pub const VERSION: &str = env!("CARGO_PKG_VERSION");
