@@ -14,23 +14,36 @@ pub fn sizes_of(body: &[u8]) -> Sizes
     ensures { λ r. ⌜ (r ≡ spec.sizesOf (now (body .entry))) × (r .words < 65536) ⌝ }
 {
     Sizes {
-        words: session::two_at(body, 0) as usize,
-        records: session::two_at(body, 2) as usize,
-        tasks: session::byte_at(body, 4) as usize,
+        words: session::number(body, Kind::Open, session::WORDS) as usize,
+        records: session::number(body, Kind::Open, session::RECORDS) as usize,
+        tasks: session::number(body, Kind::Open, session::TASKS) as usize,
     }
 }
 
-// The numbers of a request.
+// §11.2: the first version that an opening asks.
+pub fn first_of(body: &[u8]) -> u32
+    ensures { λ r. ⌜ r ≡ file.firstVersion (now (body .entry)) ⌝ }
+{
+    session::number(body, Kind::Open, session::FIRST)
+}
+
+// The numbers of a request, which stand as in a WR.
 fn task_of(body: &[u8]) -> usize
     ensures { λ r. ⌜ r ≡ file.task (now (body .entry)) ⌝ }
 {
-    session::byte_at(body, 0) as usize
+    session::number(body, Kind::Write, session::TASK) as usize
 }
 
 fn address_of(body: &[u8]) -> usize
     ensures { λ r. ⌜ r ≡ file.address (now (body .entry)) ⌝ }
 {
-    session::two_at(body, 1) as usize
+    session::number(body, Kind::Write, session::ADDRESS) as usize
+}
+
+fn value_of(body: &[u8]) -> u32
+    ensures { λ r. ⌜ r ≡ file.value (now (body .entry)) ⌝ }
+{
+    session::number(body, Kind::Write, session::VALUE)
 }
 
 // What a record asks: the call of its kind, with the numbers of its body.
@@ -58,7 +71,7 @@ pub fn ask(
         Kind::Step => calls::step(sizes, words, records, places, entries, task),
         Kind::Read => calls::read(sizes, words, records, places, entries, task, address),
         Kind::Write => {
-            let value = session::four_at(body, 3);
+            let value = value_of(body);
             calls::write(sizes, words, records, places, entries, task, address, value)
         }
     }

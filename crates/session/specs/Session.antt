@@ -28,6 +28,10 @@ mark Step = 83 ∷ 80 ∷ []
 mark Read = 82 ∷ 68 ∷ []
 mark Write = 87 ∷ 82 ∷ []
 
+abbrev pub total : List ℕ → ℕ
+total [] = 0
+total (n ∷ ns) = n + total ns
+
 -- §11.2: the first byte of a number counts once, and what follows it 256 times.
 unfoldable pub littleEndian : List ℕ → ℕ
 littleEndian [] = 0
@@ -37,39 +41,57 @@ littleEndian (b ∷ bs) = b + 256 * littleEndian bs
 unfoldable pub numberAt : ℕ → ℕ → List ℕ → ℕ
 numberAt width at bytes = littleEndian (take width (drop at bytes))
 
--- §11.2: the numbers in the body of a BD, by their bytes and where they begin
+-- §11.2: the bytes of each number of a body, in their order, and 0 for a number that it has not. Every length and every offset
+-- comes from this table.
+abbrev pub row : ℕ → ℕ → ℕ → ℕ → List ℕ
+row a b c d = a ∷ b ∷ c ∷ d ∷ []
+
+abbrev pub widths : Kind → List ℕ
+widths Open = row 2 2 1 4
+widths Start = row 1 0 0 0
+widths Commit = row 1 0 0 0
+widths Abort = row 1 0 0 0
+widths Wait = row 1 0 0 0
+widths Step = row 1 0 0 0
+widths Read = row 1 2 0 0
+widths Write = row 1 2 4 0
+
+-- a number of a body by its place among these: how wide it is, where it begins, and what it is
+abbrev pub width : Kind → ℕ → ℕ
+width k i = getD (widths k) i 0
+
+abbrev pub offset : Kind → ℕ → ℕ
+offset k i = total (take i (widths k))
+
+abbrev pub number : Kind → ℕ → List ℕ → ℕ
+number k i b = numberAt (width k i) (offset k i) b
+
+-- §11.2: the numbers of a BD
 abbrev pub words : List ℕ → ℕ
-words b = numberAt 2 0 b
+words b = number Open 0 b
 
 abbrev pub records : List ℕ → ℕ
-records b = numberAt 2 2 b
+records b = number Open 1 b
 
 abbrev pub tasks : List ℕ → ℕ
-tasks b = numberAt 1 4 b
+tasks b = number Open 2 b
 
 abbrev pub firstVersion : List ℕ → ℕ
-firstVersion b = numberAt 4 5 b
+firstVersion b = number Open 3 b
 
--- §11.2: those in every other body, as far as the mark asks for them
+-- §11.2: those of every other body stand as in a WR, as far as the mark asks for them
 abbrev pub task : List ℕ → ℕ
-task b = numberAt 1 0 b
+task b = number Write 0 b
 
 abbrev pub address : List ℕ → ℕ
-address b = numberAt 2 1 b
+address b = number Write 1 b
 
 abbrev pub value : List ℕ → ℕ
-value b = numberAt 4 3 b
+value b = number Write 2 b
 
--- the bytes that these numbers take
+-- the bytes of a body and of a record
 abbrev pub bodyLength : Kind → ℕ
-bodyLength Open = 9
-bodyLength Start = 1
-bodyLength Commit = 1
-bodyLength Abort = 1
-bodyLength Wait = 1
-bodyLength Step = 1
-bodyLength Read = 3
-bodyLength Write = 7
+bodyLength k = total (widths k)
 
 abbrev pub recordLength : Kind → ℕ
 recordLength k = 2 + bodyLength k
@@ -88,9 +110,12 @@ begins bytes m = not (ltb (length bytes) 2) && (eqb (getD bytes 0 0) (getD m 0 0
 abbrev pub kinds : List Kind
 kinds = Open ∷ Start ∷ Commit ∷ Abort ∷ Wait ∷ Step ∷ Read ∷ Write ∷ []
 
+abbrev pub orElse : List ℕ → List ℕ → Kind → Marked → Marked
+orElse bytes m k others = if begins bytes m then Known k else others
+
 unfoldable pub kindAmong : List Kind → List ℕ → Marked
 kindAmong [] bytes = Unknown
-kindAmong (k ∷ ks) bytes = if begins bytes (mark k) then Known k else kindAmong ks bytes
+kindAmong (k ∷ ks) bytes = orElse bytes (mark k) k (kindAmong ks bytes)
 
 unfoldable pub kindAt : List ℕ → Marked
 kindAt bytes = kindAmong kinds bytes

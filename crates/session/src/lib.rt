@@ -1,5 +1,7 @@
 // A session file (§11), split into its records: the kind of each by its mark, its body, and the numbers in a body.
 ghost use mathlib.Core.Path.{_≡_};
+ghost use Prim.Native.Nat.{_^_, _<_, _≤_};
+ghost use lib.ListN.{getD};
 ghost use Rattle.session.specs.Session as spec;
 
 // §11.1: bytes of the longest session.
@@ -23,6 +25,21 @@ pub const STEP_MARK: [u8; 2] = [b'S', b'P'];
 pub const READ_MARK: [u8; 2] = [b'R', b'D'];
 
 pub const WRITE_MARK: [u8; 2] = [b'W', b'R'];
+
+// §11.2: the numbers of an opening and those of a request, by their places in a row of the table of widths.
+pub const WORDS: usize = 0;
+
+pub const RECORDS: usize = 1;
+
+pub const TASKS: usize = 2;
+
+pub const FIRST: usize = 3;
+
+pub const TASK: usize = 0;
+
+pub const ADDRESS: usize = 1;
+
+pub const VALUE: usize = 2;
 
 // §11.6: the numbers that refuse a record.
 pub const UNKNOWN_MARK: u32 = 10;
@@ -72,51 +89,66 @@ fn has_mark(rest: &[u8], mark: [u8; 2]) -> bool
     }
 }
 
+// The kind of a mark, if the bytes begin with it; else what the other kinds come to.
+fn or_else(rest: &[u8], mark: [u8; 2], kind: Kind, others: Marked) -> Marked
+    ensures { λ r. ⌜ r ≡ spec.orElse (now (rest .entry)) mark kind others ⌝ }
+{
+    if has_mark(rest, mark) {
+        Marked::Known(kind)
+    } else {
+        others
+    }
+}
+
 // The kind whose mark the bytes begin with.
 pub fn kind_at(rest: &[u8]) -> Marked
     ensures { λ r. ⌜ r ≡ spec.kindAt (now (rest .entry)) ⌝ }
 {
-    if has_mark(rest, OPEN_MARK) {
-        return Marked::Known(Kind::Open);
-    }
-    if has_mark(rest, START_MARK) {
-        return Marked::Known(Kind::Start);
-    }
-    if has_mark(rest, COMMIT_MARK) {
-        return Marked::Known(Kind::Commit);
-    }
-    if has_mark(rest, ABORT_MARK) {
-        return Marked::Known(Kind::Abort);
-    }
-    if has_mark(rest, WAIT_MARK) {
-        return Marked::Known(Kind::Wait);
-    }
-    if has_mark(rest, STEP_MARK) {
-        return Marked::Known(Kind::Step);
-    }
-    if has_mark(rest, READ_MARK) {
-        return Marked::Known(Kind::Read);
-    }
-    if has_mark(rest, WRITE_MARK) {
-        return Marked::Known(Kind::Write);
-    }
-    Marked::Unknown
+    let write = or_else(rest, WRITE_MARK, Kind::Write, Marked::Unknown);
+    let read = or_else(rest, READ_MARK, Kind::Read, write);
+    let step = or_else(rest, STEP_MARK, Kind::Step, read);
+    let wait = or_else(rest, WAIT_MARK, Kind::Wait, step);
+    let abort = or_else(rest, ABORT_MARK, Kind::Abort, wait);
+    let commit = or_else(rest, COMMIT_MARK, Kind::Commit, abort);
+    let start = or_else(rest, START_MARK, Kind::Start, commit);
+    or_else(rest, OPEN_MARK, Kind::Open, start)
 }
 
-// §11.2: how many bytes a body has.
+// §11.2: the bytes of each number of a body, in their order, and 0 for a number that it has not. Every length and every offset
+// comes from this table.
+fn widths(kind: Kind) -> [usize; 4]
+    ensures { λ r. ⌜ r ≡ spec.widths kind ⌝ }
+{
+    match kind {
+        Kind::Open => [2, 2, 1, 4],
+        Kind::Start => [1, 0, 0, 0],
+        Kind::Commit => [1, 0, 0, 0],
+        Kind::Abort => [1, 0, 0, 0],
+        Kind::Wait => [1, 0, 0, 0],
+        Kind::Step => [1, 0, 0, 0],
+        Kind::Read => [1, 2, 0, 0],
+        Kind::Write => [1, 2, 4, 0],
+    }
+}
+
+// Where a number of a body begins: behind those before it.
+fn offset(kind: Kind, field: usize) -> usize
+    requires { ⌜ field ≤ 4 ⌝ }
+    ensures { λ r. ⌜ r ≡ spec.offset kind field ⌝ }
+{
+    let row = widths(kind);
+    let mut sum = 0;
+    for i in 0..field {
+        sum = sum + row[i];
+    }
+    sum
+}
+
+// How many bytes a body has.
 pub fn body_length(kind: Kind) -> usize
     ensures { λ r. ⌜ r ≡ spec.bodyLength kind ⌝ }
 {
-    match kind {
-        Kind::Open => 9,
-        Kind::Start => 1,
-        Kind::Commit => 1,
-        Kind::Abort => 1,
-        Kind::Wait => 1,
-        Kind::Step => 1,
-        Kind::Read => 3,
-        Kind::Write => 7,
-    }
+    offset(kind, 4)
 }
 
 // How many bytes a record has, its mark among them: the next record is read from the part that begins there.
@@ -206,27 +238,48 @@ pub fn body(rest: &[u8], kind: Kind) -> &[u8]
     &rest[MARK_LENGTH..end]
 }
 
-// The number of one byte, of two and of four at a place of a body. What is not there counts 0.
+// The byte at a place of a body. What is not there counts 0.
 pub fn byte_at(body: &[u8], at: usize) -> u8
-    ensures { λ r. ⌜ r ≡ spec.numberAt 1 at (now (body .entry)) ⌝ }
+    ensures { λ r. ⌜ r ≡ getD (now (body .entry)) at 0 ⌝ }
 {
     if at < body.len() { body[at] } else { 0 }
 }
 
-pub fn two_at(body: &[u8], at: usize) -> u16
-    ensures { λ r. ⌜ r ≡ spec.numberAt 2 at (now (body .entry)) ⌝ }
+// The number of so many bytes at a place of a body, from its highest byte down.
+fn number_at(body: &[u8], width: usize, at: usize) -> u32
+    requires { ⌜ width ≤ 4 ⌝ }
+    ensures { λ r. ⌜ (r ≡ spec.numberAt width at (now (body .entry))) × (r < 256 ^ width) ⌝ }
 {
     if body.len() <= at {
         return 0;
     }
-    byte_at(body, at) as u16 + 256 * byte_at(body, at + 1) as u16
+    let mut sum: u32 = 0;
+    let mut left = width;
+    while 0 < left {
+        left = left - 1;
+        sum = byte_at(body, at + left) as u32 + 256 * sum;
+    }
+    sum
+}
+
+// A number of a body by its place in the table of widths.
+pub fn number(body: &[u8], kind: Kind, field: usize) -> u32
+    requires { ⌜ field < 4 ⌝ }
+    ensures { λ r. ⌜ (r ≡ spec.number kind field (now (body .entry))) × (r < 256 ^ spec.width kind field) ⌝ }
+{
+    let row = widths(kind);
+    number_at(body, row[field], offset(kind, field))
+}
+
+// The numbers of two and of four bytes at a place of a body.
+pub fn two_at(body: &[u8], at: usize) -> u16
+    ensures { λ r. ⌜ r ≡ spec.numberAt 2 at (now (body .entry)) ⌝ }
+{
+    number_at(body, 2, at) as u16
 }
 
 pub fn four_at(body: &[u8], at: usize) -> u32
     ensures { λ r. ⌜ r ≡ spec.numberAt 4 at (now (body .entry)) ⌝ }
 {
-    if body.len() <= at {
-        return 0;
-    }
-    two_at(body, at) as u32 + 65536 * two_at(body, at + 2) as u32
+    number_at(body, 4, at)
 }

@@ -54,7 +54,7 @@ returns-8 : tie.Need-returns-8
 unfolding requested call
 returns-8 c =
     let told = c .before .before .before .before .before .before .before .before in
-    rw (told .enum-told8 .given .1, ← told .before .before .before .task-of .ensures, ← told .before .before .address-of .ensures, ← c .before .before .before .before .before .before .before .four-at .ensures) (c .before .before .write .ensures)
+    rw (told .enum-told8 .given .1, ← told .before .before .before .task-of .ensures, ← told .before .before .address-of .ensures, ← c .before .before .before .before .before .before .before .value-of .ensures) (c .before .before .write .ensures)
 
 pub ask-spec : {M : Type 1} → statement M
 ask-spec =

@@ -1,10 +1,11 @@
--- `asking::sizes_of` meets its contract: each size by its place in the body.
+-- `asking::sizes_of` meets its contract: each size by its place in the table of widths.
 use borrow.Author.Needs.{needs}
 use Rattle.asking.proofs.sizes_of.Statement.{statement}
 use Rattle.asking.proofs.sizes_of.Tie as tie
 
 returns : tie.Need-returns
-returns c = (rw (← c .before .before .two-at .ensures, ← c .before .two-at2 .ensures, ← c .byte-at .ensures), search needs)
+returns c =
+    (rw (← c .before .before .number .ensures .0, ← c .before .number2 .ensures .0, ← c .number3 .ensures .0), c .before .before .number .ensures .1)
 
 pub sizes-of-spec : {M : Type 1} → statement M
 sizes-of-spec =
