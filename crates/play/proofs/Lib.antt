@@ -6,4 +6,6 @@ pub mod Lent
 pub mod Texts
 pub mod Room
 pub mod Reaches
+pub mod Values
+pub mod Short
 pub mod Promises

@@ -6,13 +6,16 @@ use mathlib.Core.Bool.{Bool, true, false, false≢true}
 use lib.Dec.{eqb}
 use Rattle.memory.specs.declared.Sizes.{Sizes}
 use Rattle.memory.specs.Pieces.{if_then_else_, Memory}
+use Rattle.memory.specs.Sound.{sound}
 use Rattle.memory.specs.Numbers.{Reply, reply}
 use Rattle.memory.specs.Requests.{opened, openBoard}
 use Rattle.memory.specs.Calls.{Call, call}
 use Rattle.memory.specs.Calls.Call.{ST, CM, AB, WT, SP, RD, WR}
-use Rattle.memory.specs.History.{Event, Scene, scene, nothing, next, ran}
+use Rattle.memory.specs.History as history
+use Rattle.memory.specs.History.{Event, Scene, scene, nothing, next}
 use Rattle.memory.specs.History.Event.{request, opening}
 use Rattle.memory.proofs.Tools.{if-cases}
+use Rattle.memory.proofs.Promises.{every-claim}
 use Rattle.session.specs.declared.Kind.{Kind}
 use Rattle.session.specs.declared.Kind.the-variants.{Open, Start, Commit, Abort, Wait, Step, Read, Write}
 use Rattle.session.specs.declared.Split.{Split}
@@ -20,7 +23,7 @@ use Rattle.session.specs.declared.Split.the-variants.{Record, Refused, End}
 use Rattle.session.specs.Session as file
 use Rattle.session.specs.Session.{Piece, Session}
 use Rattle.session.proofs.Cases.{session-cases}
-use Rattle.play.specs.Claims.{Reached, PlayedIsReached}
+use Rattle.play.specs.Claims.{ran, Reached, PlayedIsReached}
 use Rattle.asking.specs.Asking.{requested}
 use Rattle.play.specs.Play.{sizesAsked, firstAsked, lent, Run, runs, after, over, run, stops, runOn}
 use Rattle.play.proofs.Lent.{opening-cases, lent-serves}
@@ -67,7 +70,7 @@ module _ (z : Sizes) (v : ℕ) where
   -- so do all of them, if none stops the player
   record Leads (s : Scene) (m : Memory) : Type 0 where
     events : List Event
-    on : On z v m (ran s events)
+    on : On z v m (history.ran s events)
 
   at-the-end : (i : ℕ) (m : Memory) (e : Split) (s : Scene) → On z v m s → over i m e .whole ≡ true → Leads s (over i m e .board)
   at-the-end i m (Record k) s on w = record { events = []; on = on }
@@ -126,3 +129,10 @@ played bytes =
     session-cases bytes (λ s. run z v 0 (lent z) (s .pieces) (s .ended) .whole ≡ true → Reached z v (run z v 0 (lent z) (s .pieces) (s .ended) .board))
     (λ n l w. absurd (false≢true w))
     (λ rest. from-opening z v rest)
+
+-- so the board that it leaves is sound
+pub board-is-sound : (bytes : List ℕ) → ran bytes .whole ≡ true → sound (sizesAsked bytes) (ran bytes .board) ≡ true
+board-is-sound bytes whole =
+    let r = played bytes whole in
+    let ok = every-claim .reached-is-sound (sizesAsked bytes) (firstAsked bytes) (lent (sizesAsked bytes)) (r .opens) (r .events) in
+    rw (r .sizes, r .memory) at ok

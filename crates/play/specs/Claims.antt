@@ -1,14 +1,15 @@
 -- What is promised of the text: each statement once, under a name. proofs/Promises.antt proves them.
-use Prim.Native.Nat.{ℕ}
+use Prim.Native.Nat.{ℕ, _+_, _*_, _<_, _≤_}
 use mathlib.Core.Path.{_≡_}
 use mathlib.Core.List.{List}
 use mathlib.Core.Bool.{true}
+use lib.ListN.{length}
 use Rattle.memory.specs.declared.Sizes.{Sizes}
-use Rattle.memory.specs.Pieces.{Memory}
+use Rattle.memory.specs.Pieces.{Memory, mostWords}
 use Rattle.memory.specs.Requests.{openBoard}
-use Rattle.memory.specs.History.{Event, reached}
+use Rattle.memory.specs.History.{_∈_, Event, reached}
 use Rattle.showing.specs.Claims.{ShowsTheBoard}
-use Rattle.play.specs.Play.{sizesAsked, firstAsked, lent, Run, runOn}
+use Rattle.play.specs.Play.{sizesAsked, firstAsked, lent, Run, runOn, text}
 
 -- the sizes, the first version and the run of a session
 abbrev pub ran : List ℕ → Run
@@ -29,3 +30,14 @@ pub record Reached (z : Sizes) (v : ℕ) (m : Memory) : Type 0 where
 
 abbrev pub PlayedIsReached : Type 0
 PlayedIsReached = (bytes : List ℕ) → ran bytes .whole ≡ true → Reached (sizesAsked bytes) (firstAsked bytes) (ran bytes .board)
+
+-- The longest text. At most 20,000 records of three bytes or more, and one that is refused, have a line of an index of five digits,
+-- a number of two and a value of ten. At most 4,096 words have one of an address of four digits, and value and version of ten.
+abbrev pub mostText : ℕ
+mostText = 20 * 20001 + 29 * mostWords
+
+abbrev pub Bytes : List ℕ → Type 0
+Bytes l = (b : ℕ) → b ∈ l → b < 256
+
+abbrev pub TextIsShort : Type 0
+TextIsShort = (bytes : List ℕ) → Bytes bytes → length (text bytes) ≤ mostText

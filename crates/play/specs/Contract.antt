@@ -1,6 +1,6 @@
 -- What the contracts of the code cite besides the text itself.
 pub use Rattle.play.specs.declared.Played.{Played}
-pub use Rattle.play.specs.declared.Played.the-variants.{Written, TooShort}
+pub use Rattle.play.specs.declared.Played.the-variants.{Whole, TooShort}
 use Prim.Native.Nat.{ℕ, _+_, _*_, _≤_}
 use mathlib.Core.Path.{_≡_}
 use mathlib.Core.List.{List}
@@ -9,7 +9,7 @@ use lib.Dec.{leb}
 use lib.ListN.{length}
 use Rattle.memory.specs.Pieces.{if_then_else_, Memory, mostWords, mostRecords, mostTasks, mostEntries}
 use Rattle.session.specs.Session.{mostBytes}
-use Rattle.text.specs.Text.{Put, stored}
+use Rattle.text.specs.Text.{Put, written}
 use Rattle.showing.specs.Showing.{wordLineRoom}
 use Rattle.play.specs.Play.{Run, text}
 
@@ -17,7 +17,8 @@ use Rattle.play.specs.Play.{Run, text}
 abbrev pub lineRoom : ℕ
 lineRoom = 33
 
--- how long the lines of all records can be, and the whole text
+-- How far the places in the buffer can go, after the lines of all records and after the whole text. No place wraps, and that is all
+-- that these are for: `TextIsShort` has the length of the longest text.
 abbrev pub recordsRoom : ℕ
 recordsRoom = lineRoom * mostBytes + lineRoom
 
@@ -37,13 +38,10 @@ pub record Roomy (words records places entries : ℕ) : Type 0 where
   pub for-tasks : mostTasks ≤ places
   pub for-entries : mostEntries * mostTasks ≤ entries
 
--- The whole text is written, or nothing: a table or the buffer is too short.
-unfoldable pub fits : Memory → List ℕ → List ℕ → Bool
-fits m bytes out = roomy m && leb (length (text bytes)) (length out)
-
-pub record Plays (m : Memory) (bytes out left : List ℕ) (r : Played) : Type 0 where
-  pub answer : r ≡ (if fits m bytes out then Written (length (text bytes)) else TooShort)
-  pub buffer : left ≡ (if fits m bytes out then stored out 0 (text bytes) else out)
+-- What is answered and what the buffer holds, of any tables, session and buffer: the length of the whole text, and as much of it as
+-- fits; or a table is too short, and the buffer is as it was.
+unfoldable pub playing : Memory → List ℕ → List ℕ → Played × List ℕ
+playing m bytes out = if roomy m then (Whole (length (text bytes)), written out (text bytes)) else (TooShort, out)
 
 -- The lines of a run are put at a place, and the run's end and the board are handed on.
 pub record Runs (most : ℕ) (r : Run) (out : List ℕ) (at : ℕ) (left : List ℕ) (next : ℕ) (goes : Bool) (m : Memory) : Type 0 where

@@ -6,13 +6,16 @@ ghost use Rattle.memory.specs.Pieces.{Memory, memory};
 ghost use Rattle.session.specs.Session.{mostBytes};
 ghost use Rattle.text.specs.Text.{Put};
 ghost use Rattle.play.specs.Play as spec;
-ghost use Rattle.play.specs.Contract.{Plays, Roomy, Runs, lineRoom, recordsRoom, textRoom};
+ghost use Rattle.play.specs.Contract.{Roomy, Runs, lineRoom, recordsRoom, textRoom, playing};
 use memory::Sizes;
 use session::Split;
 
-// How many bytes were written; or a lent table or the buffer is too short, and nothing was written.
+// Bytes of the longest text there is: the claim `TextIsShort` in specs/.
+pub const MOST_TEXT: usize = 518804;
+
+// How many bytes the whole text has; or a lent table is too short, and nothing was written.
 pub enum Played {
-    Written(usize),
+    Whole(usize),
     TooShort,
 }
 
@@ -154,7 +157,8 @@ fn run(
     )
 }
 
-// Plays a session: its text goes into the lent buffer, whole or not at all. The lent tables are of the largest sizes.
+// Plays a session once, and prints as C's snprintf does: it answers the length of the whole text and writes as much of it as the
+// lent buffer holds. No byte 0 ends it. The lent tables are of the largest sizes.
 pub fn play(
     session: &[u8],
     words: &mut [u32],
@@ -163,8 +167,8 @@ pub fn play(
     entries: &mut [[u32; 5]],
     out: &mut [u8],
 ) -> Played
-    ensures { λ r. ⌜ Plays (memory (now (words .entry)) (now (records .entry)) (now (places .entry)) (now (entries .entry)))
-        (now (session .entry)) (now (out .entry)) (now (out .exit)) r ⌝ }
+    ensures { λ r. ⌜ playing (memory (now (words .entry)) (now (records .entry)) (now (places .entry)) (now (entries .entry)))
+        (now (session .entry)) (now (out .entry)) ≡ (r, now (out .exit)) ⌝ }
 {
     if words.len() < memory::MOST_WORDS {
         return Played::TooShort;
@@ -178,10 +182,5 @@ pub fn play(
     if entries.len() < memory::MOST_ENTRIES * memory::MOST_TASKS {
         return Played::TooShort;
     }
-    let length = run(session, words, records, places, entries, &mut out[..0]);
-    if out.len() < length {
-        return Played::TooShort;
-    }
-    let written = run(session, words, records, places, entries, out);
-    Played::Written(written)
+    Played::Whole(run(session, words, records, places, entries, out))
 }

@@ -1,4 +1,7 @@
 // Plays the session that standard input holds, and prints its text. Reading and writing are all that is done here.
+ghost use mathlib.Core.Path.{_≡_};
+ghost use lib.ListN.{length};
+ghost use Rattle.play.specs.Claims.{mostText};
 use libc::STDIN_FILENO;
 use libc::STDOUT_FILENO;
 use play::Played;
@@ -8,12 +11,14 @@ fn room_for_session() -> [u8; 60001] {
     [0u8; 60001]
 }
 
-// No text is longer: 20,000 lines of records, and 4,096 of words.
-fn room_for_text() -> [u8; 800000] {
-    [0u8; 800000]
+// No text is longer, by `text-is-short` in crates/play.
+fn room_for_text() -> [u8; play::MOST_TEXT]
+    ensures { λ r. ⌜ length r ≡ mostText ⌝ }
+{
+    [0u8; play::MOST_TEXT]
 }
 
-// Prints as much of the text as was written.
+// Prints the text, which was written whole if there was room for it.
 fn print(text: &[u8], length: usize) {
     if length <= text.len() {
         io::write_all(STDOUT_FILENO, &text[..length]);
@@ -34,10 +39,10 @@ fn play_session(session: &[u8], text: &mut [u8]) {
         &mut entries,
         text,
     );
-    match played {
-        Played::Written(length) => print(text, length),
-        Played::TooShort => print(b"The text is too long.\n", 22),
-    }
+    let Played::Whole(length) = played else {
+        return;
+    };
+    print(text, length);
 }
 
 fn main() {

@@ -1,7 +1,7 @@
 -- On a sound board the `w` lines are those of exactly the changed addresses, ascending; and no other text is.
 use Prim.Native.Nat.{ℕ, zero, suc, _<_, _≤_}
 use mathlib.Core.Path.{_≡_, refl, sym, ap, _∙_, subst⁻¹}
-use mathlib.Core.Logic.{_⊎_, inl, inr, ⊎-elim, _≢_}
+use mathlib.Core.Logic.{inl, inr, ⊎-elim}
 use mathlib.Core.List.{List, [], _∷_, _++_, append-assoc, append-nil, List·Memᴰ·head, List·Memᴰ·tail, List·Memᴰ·not-nil, List·Memᴰ·cases-cons, List·Memᴰ·append-cases, List·Memᴰ·eq-of-singleton, Memᴰ·append-left, Memᴰ·append-right}
 use mathlib.Core.Bool.{Bool, true, false, not, _&&_, false≢true}
 use lib.Dec.{eqb}
@@ -93,7 +93,7 @@ module _ (z : Sizes) (v : ℕ) (m : Memory) where
   lines-append [] l = refl
   lines-append (a ∷ k) l = rw (lines-append k l, append-assoc)
 
-  look-up : sound z m ≡ true → (a : ℕ) → a < z .words → look z m a ≡ looked 0 (logical z m a .value) (logical z m a .version)
+  pub look-up : sound z m ≡ true → (a : ℕ) → a < z .words → look z m a ≡ looked 0 (logical z m a .value) (logical z m a .version)
   unfolding look
   look-up ok a h = rw (ok, lt-ltb a (z .words) h)
 

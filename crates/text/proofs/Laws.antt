@@ -9,8 +9,8 @@ use native.Mathlib.Omega.{arith}
 use borrow.Author.Tests.{lt-ltb, le-ltb, ltb-true, ltb-false}
 use lib.Dec.{ltb}
 use lib.ListN.{length, set, length-append}
-use lib.Seq.{set-out}
-use Rattle.text.specs.Text.{lastDigits, digits, line, wordLine, stored, Put}
+use lib.Seq.{drop-nil, set-out}
+use Rattle.text.specs.Text.{lastDigits, digits, line, wordLine, stored, written, Put}
 
 -- one digit, or more than one
 one-or-more : (n : ℕ) → (n < 10) ⊎ (10 ≤ n)
@@ -62,16 +62,15 @@ digits-length (suc k) n h =
 pub digits-word : (n : ℕ) → n < 2 ^ 32 → length (digits n) ≤ 10
 digits-word n h = digits-length 9 n (omega arith)
 
-pub line-length : (index number value : ℕ)
-    → index < 2 ^ 32 → number < 2 ^ 32 → value < 2 ^ 32 → length (line index number value) ≤ 33
-unfolding line
-line-length i n v hi hn hv =
-    simp length-append (omega (arith, digits-word i hi, digits-word n hn, digits-word v hv))
+-- a line of three numbers, each below a power of ten
+module _ (i j k : ℕ) {a b c : ℕ} (ha : a < 10 ^ suc i) (hb : b < 10 ^ suc j) (hc : c < 10 ^ suc k) where
+  pub line-length : length (line a b c) ≤ i + j + k + 6
+  unfolding line
+  line-length = simp length-append (omega (arith, digits-length i a ha, digits-length j b hb, digits-length k c hc))
 
-pub word-line-length : (address value version : ℕ)
-    → address < 2 ^ 32 → value < 2 ^ 32 → version < 2 ^ 32 → length (wordLine address value version) ≤ 35
-unfolding wordLine
-word-line-length a v w ha hv hw = omega (arith, line-length a v w ha hv hw)
+  pub word-line-length : length (wordLine a b c) ≤ i + j + k + 8
+  unfolding wordLine
+  word-line-length = omega (arith, line-length)
 
 -- bytes put after bytes are the two runs put as one
 pub stored-append : (out : List ℕ) (at : ℕ) (xs ys : List ℕ)
@@ -88,6 +87,30 @@ follow {out = out} {at = at} {xs = xs} {ys = ys} p q =
       after = omega (arith, length-append xs ys);
       near = omega arith;
     }
+
+-- two bytes written to a buffer of one, of two and of three
+written-one : written (1 ∷ []) (7 ∷ 8 ∷ []) ≡ 7 ∷ []
+written-one = refl
+
+written-two : written (1 ∷ 2 ∷ []) (7 ∷ 8 ∷ []) ≡ 7 ∷ 8 ∷ []
+written-two = refl
+
+written-three : written (1 ∷ 2 ∷ 3 ∷ []) (7 ∷ 8 ∷ []) ≡ 7 ∷ 8 ∷ 3 ∷ []
+written-three = refl
+
+-- what bytes put from the first place on come to
+past-all : (at : ℕ) (bytes : List ℕ) → stored [] at bytes ≡ []
+past-all at [] = refl
+past-all at (b ∷ bytes) = past-all (suc at) bytes
+
+behind-one : (x : ℕ) (out : List ℕ) (at : ℕ) (bytes : List ℕ) → stored (x ∷ out) (suc at) bytes ≡ x ∷ stored out at bytes
+behind-one x out at [] = refl
+behind-one x out at (b ∷ bytes) = behind-one x (set out at b) (suc at) bytes
+
+pub stored-front : (out bytes : List ℕ) → stored out 0 bytes ≡ written out bytes
+stored-front [] bytes = past-all 0 bytes ∙ sym (drop-nil (length bytes))
+stored-front (x ∷ out) [] = refl
+stored-front (x ∷ out) (b ∷ bytes) = behind-one b out 0 bytes ∙ ap (λ (l : List ℕ). b ∷ l) (stored-front out bytes)
 
 -- no byte put, and more room than was said
 pub put-none : (most : ℕ) (out : List ℕ) (at : ℕ) → Put most out at [] out at

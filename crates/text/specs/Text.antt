@@ -4,13 +4,17 @@ use mathlib.Core.Bool.{cond}
 use mathlib.Core.List.{List, [], _∷_, _++_}
 use Prim.Native.Nat.{ℕ, zero, suc, _+_, _/_, _%_, _≤_}
 use lib.Dec.{ltb}
-use lib.ListN.{length}
+use lib.ListN.{length, take, drop}
 use lib.Seq.{sets}
 
 -- The bytes stored from `at` on, each at the next place: `stored out at []` is `out`, and `stored out at (b ∷ bs)` is
 -- `stored (set out at b) (suc at) bs`. A store past the end changes nothing.
 abbrev pub stored : List ℕ → ℕ → List ℕ → List ℕ
 stored out at bytes = sets out at bytes
+
+-- As C's snprintf writes: from the first place on as many of the bytes as there is room for, and behind them what stood there.
+abbrev pub written : List ℕ → List ℕ → List ℕ
+written out bytes = take (length out) bytes ++ drop (length bytes) out
 
 -- The last digits of n in ASCII, as many as n has and no more than the first argument says.
 unfoldable pub lastDigits : ℕ → ℕ → List ℕ

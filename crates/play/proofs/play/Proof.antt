@@ -1,10 +1,10 @@
--- `play::play` meets its contract: a first run with an empty part of the buffer tells how long the text is, a second one writes it.
+-- `play::play` meets its contract: the tables are long enough, and the run is the whole of it.
 use lib.ListN.{length}
 use native.Mathlib.Omega.{arith}
 use denote.Ref.{now}
 use borrow.Author.Needs.{needs}
 use Rattle.play.specs.Contract.{Roomy}
-use Rattle.play.proofs.Room.{no-room, too-short, whole-text}
+use Rattle.play.proofs.Room.{no-room, whole-text}
 use Rattle.play.proofs.play.Statement.{statement}
 use Rattle.play.proofs.play.Tie as tie
 
@@ -30,25 +30,7 @@ run-requires : tie.Need-run-requires
 run-requires c κs = room (c .before .before .before .before .before)
 
 returns-5 : tie.Need-returns-5
-returns-5 c =
-    let ran = c .before .before .before .before .before .before .before .before .before in
-    too-short _ _ _ (room (c .before .before .before .before .before .before .before .before .before .before .before .before .before .before .before)) (ran .run .ensures) (ran .run .kept .1 .1 .1 .1 .1 .0) (c .if5 .taken)
-
-run-requires-2 : tie.Need-run-requires-2
-run-requires-2 c κs =
-    let ran = c .before .before .before .before .before .before .before .before .before .before .before .before .before .before in
-    let had = room (c .before .before .before .before .before .before .before .before .before .before .before .before .before .before .before .before .before .before .before .before) in
-    record {
-      for-words = omega (arith, had .for-words, ran .run .kept .1 .0);
-      for-records = omega (arith, had .for-records, ran .run .kept .1 .1 .0);
-      for-tasks = omega (arith, had .for-tasks, ran .run .kept .1 .1 .1 .0);
-      for-entries = omega (arith, had .for-entries, ran .run .kept .1 .1 .1 .1 .0);
-    }
-
-returns-6 : tie.Need-returns-6
-returns-6 c =
-    let ran = c .before .before .before .before .before .before .before .before .before .before .before .before .before .before .before .before .before .before .before .before .before .before .before in
-    whole-text _ _ _ (room (c .before .before .before .before .before .before .before .before .before .before .before .before .before .before .before .before .before .before .before .before .before .before .before .before .before .before .before .before .before)) (ran .run .ensures) (ran .run .kept .1 .1 .1 .1 .1 .0) (c .before .before .before .before .before .before .before .before .before .before .before .before .before .before .if5 .left) (c .before .before .before .before .before .before .before .before .run2 .ensures)
+returns-5 c = whole-text _ _ _ (room (c .before .before .before .before .before .before .before .before .before .before .before .before .before .before)) (c .before .before .before .before .before .before .before .before .run .ensures)
 
 pub play-spec : {M : Type 1} → statement M
 play-spec =
@@ -59,19 +41,10 @@ play-spec =
     returns-3
     (λ c. search needs)
     returns-4
-    (λ c. search needs)
-    (λ c. search needs)
     run-requires
     (λ c. search needs)
     (λ c. search needs)
     (λ c. search needs)
     (λ c. search needs)
     (λ c. search needs)
-    returns-5
-    run-requires-2
-    (λ c. search needs)
-    (λ c. search needs)
-    (λ c. search needs)
-    (λ c. search needs)
-    (λ c. search needs)
-    returns-6)
+    returns-5)

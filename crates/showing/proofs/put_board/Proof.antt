@@ -40,20 +40,23 @@ all-lines z v m out₀ at count out next address b h =
     subst (λ (n : ℕ). Put (wordLineRoom * n) out₀ at (wordLines z v m n) out next) last (b .lines)
 
 abbrev Inv-loop : tie.InvT-loop
-Inv-loop sizes first words records places entries out₀ at count next₀ address₀ out next address =
+Inv-loop sizes first words records places entries out₀ at checked count next₀ address₀ out next address =
     Board sizes first (memory words records places entries) out₀ at count out next address
 
 abbrev μ-loop : tie.MeasureT-loop
-μ-loop sizes first words records places entries out₀ at count next₀ address₀ out next address =
+μ-loop sizes first words records places entries out₀ at checked count next₀ address₀ out next address =
     count - address
 
 loop-holds : tie.Need-loop-holds Inv-loop μ-loop
 unfolding wordLines
 loop-holds c = record { lines = put-none 0 _ _; up-to = omega arith; words = refl; same = refl }
 
+put-word-requires : tie.Need-put-word-requires Inv-loop μ-loop
+put-word-requires c κs = (c .before .before .before .is-sound .ensures, omega arith, omega arith, omega arith)
+
 loop-again : tie.Need-loop-again Inv-loop μ-loop
 loop-again c =
-    one-more _ _ _ _ _ _ _ _ _ _ _ (c .before .before .before .before .before .loop .inv) (c .before .before .before .before .loop-test .taken) (c .before .before .put-word .kept .1 .1 .1 .1 .1 .1 .1 .0) (c .before .before .put-word .ensures)
+    one-more _ _ _ _ _ _ _ _ _ _ _ (c .before .before .before .before .before .loop .inv) (c .before .before .before .before .loop-test .taken) (c .before .before .put-word .kept .1 .1 .1 .1 .1 .1 .1 .1 .0) (c .before .before .put-word .ensures)
 
 returns : tie.Need-returns Inv-loop μ-loop
 returns c = all-lines _ _ _ _ _ _ _ _ _ (c .before .loop .inv) (c .loop-test .left)
@@ -64,8 +67,9 @@ put-board-spec =
     (tie.spec
     Inv-loop
     μ-loop
-    loop-holds
     (λ c κs. search needs)
+    loop-holds
+    put-word-requires
     (λ c. search needs)
     (λ c. search needs)
     loop-again

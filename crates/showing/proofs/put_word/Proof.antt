@@ -6,7 +6,7 @@ use mathlib.Core.Bool.{true, false, _&&_}
 use lib.Dec.{eqb}
 use borrow.Author.Needs.{needs}
 use Rattle.memory.specs.declared.Sizes.{Sizes}
-use Rattle.memory.specs.declared.Looked.{Looked}
+use Rattle.memory.specs.declared.Seen.{Seen}
 use Rattle.memory.specs.Pieces.{Memory}
 use Rattle.memory.specs.Requests.{look}
 use Rattle.text.specs.Text.{wordLine}
@@ -16,22 +16,22 @@ use Rattle.showing.proofs.put_word.Statement.{statement}
 use Rattle.showing.proofs.put_word.Tie as tie
 
 -- what is shown of an address that was looked up
-module _ (z : Sizes) (v : ℕ) (m : Memory) (a : ℕ) (l : Looked) (is : l ≡ look z m a) where
+module _ (z : Sizes) (v : ℕ) (m : Memory) (a : ℕ) (l : Seen) (is : (l .value ≡ look z m a .value) × (l .version ≡ look z m a .version)) where
   unchanged : (eqb (l .value) 0 && eqb (l .version) v) ≡ true → shown z v m a ≡ []
   unfolding shown
-  unchanged e = rw (← is, e)
+  unchanged e = rw (← is .0, ← is .1, e)
 
   changed : (eqb (l .value) 0 && eqb (l .version) v) ≡ false → shown z v m a ≡ wordLine a (l .value) (l .version)
   unfolding shown
-  changed e = rw (← is, e)
+  changed e = rw (← is .0, ← is .1, e)
 
 returns : tie.Need-returns
 returns c =
-    rw (unchanged _ _ _ _ _ (c .before .before .look .ensures) (sym (c .before .is-first .ensures) ∙ c .if1 .taken)) (put-none wordLineRoom _ _)
+    rw (unchanged _ _ _ _ _ (c .before .before .seen-at .ensures) (sym (c .before .is-first .ensures) ∙ c .if1 .taken)) (put-none wordLineRoom _ _)
 
 returns-2 : tie.Need-returns-2
 returns-2 c =
-    rw (changed _ _ _ _ _ (c .before .before .before .before .before .before .look .ensures) (sym (c .before .before .before .before .before .is-first .ensures) ∙ c .before .before .before .before .if1 .left)) (c .before .before .put-word-line .ensures)
+    rw (changed _ _ _ _ _ (c .before .before .before .before .before .before .seen-at .ensures) (sym (c .before .before .before .before .before .is-first .ensures) ∙ c .before .before .before .before .if1 .left)) (c .before .before .put-word-line .ensures)
 
 pub put-word-spec : {M : Type 1} → statement M
 put-word-spec =
