@@ -136,6 +136,48 @@ fn transactions(boards: &Boards) -> String {
     rows
 }
 
+/// What one archive costs on each board: a look-up and the transaction, a line for each board.
+fn turn(boards: &Boards) -> String {
+    let all = [&boards.small, &boards.club, &boards.evening, &boards.full, &boards.crowded];
+    all.map(|scene| format!("{} {}\n", scene.look(), checked_transaction(scene))).concat()
+}
+
+/// The fastest of several turns of two programs, which are this one with two archives.
+fn by_turns(programs: [&str; 2]) -> Option<[Vec<f64>; 2]> {
+    let mut best = [vec![f64::INFINITY; 10], vec![f64::INFINITY; 10]];
+    for _ in 0..5 {
+        for (best, program) in best.iter_mut().zip(programs) {
+            eprintln!("bench: a turn of {program}");
+            let figures = said(program, &["--turn"])?;
+            for (fastest, figure) in best.iter_mut().zip(figures.split_whitespace()) {
+                *fastest = fastest.min(figure.parse().ok()?);
+            }
+        }
+    }
+    Some(best)
+}
+
+/// Another archive beside this one, where `bench/run` was given one.
+fn beside() -> String {
+    let (Ok(other), Ok(name)) = (std::env::var("CHEZUMOBARI_BESIDE"), std::env::var("CHEZUMOBARI_BESIDE_NAME")) else {
+        return String::new();
+    };
+    let this = std::env::current_exe().expect("a program knows where it is");
+    let [before, now] = by_turns([&other, &this.to_string_lossy()]).expect("both archives can be measured");
+    let mut text = format!(
+        "## Beside {name}\n\n\
+        The two archives took turns in this run, and the fastest turn of each counts. \
+        The ratio is this archive's time divided by the other's.\n\n\
+        | Board | Look-up there | Here | Ratio | Transaction there | Here | Ratio |\n|---|---|---|---|---|---|---|\n"
+    );
+    for (i, board) in ["small", "club", "evening", "full", "crowded"].into_iter().enumerate() {
+        let (look, whole) = (2 * i, 2 * i + 1);
+        let pair = |k: usize| format!("{:.0} | {:.0} | {:.2}", before[k], now[k], now[k] / before[k]);
+        text += &format!("| {board} | {} | {} |\n", pair(look), pair(whole));
+    }
+    text + "\n"
+}
+
 fn growth() -> Vec<plot::Line> {
     let line = |name, colour, sizes: &[usize], scene: &dyn Fn(usize) -> Scene| {
         eprintln!("bench: growth with {name}");
@@ -162,8 +204,13 @@ fn growth_in_words(lines: &[plot::Line]) -> String {
 
 fn main() {
     let docs = Path::new(env!("CARGO_MANIFEST_DIR")).join("../docs");
-    let machine = machine();
     let boards = boards();
+    if std::env::args().any(|word| word == "--turn") {
+        print!("{}", turn(&boards));
+        return;
+    }
+    let machine = machine();
+    let beside = beside();
     let transactions = transactions(&boards);
     let per_call = per_call(&boards);
     let club = on_the_club(&boards.club);
@@ -183,6 +230,7 @@ fn main() {
     let page = include_str!("SPEED.template.md")
         .replace("{machine}", &machine)
         .replace("{transactions}", transactions.trim_end())
+        .replace("{beside}", &beside)
         .replace("{calls}", per_call.trim_end())
         .replace("{club}", club.trim_end())
         .replace("{usual}", &format!("{usual:.0}"))

@@ -39,8 +39,9 @@ fn damage(random: &mut Random, sizes: Sizes, tables: &mut Tables) {
             &mut tables.places[t][column]
         }
         _ => {
-            let (t, i, column) = (random.below(tables.places.len()), random.below(4), random.below(5));
-            &mut tables.entries[64 * t + i][column]
+            let (t, column) = (random.below(tables.places.len()), random.below(5));
+            let used = tables.places[t][0].clamp(3, 63) as usize;
+            &mut tables.entries[64 * t + random.below(used + 1)][column]
         }
     };
     *spot = edge(random, sizes, *spot);
@@ -109,27 +110,57 @@ fn one_call(random: &mut Random, sizes: Sizes, tables: &mut Tables, met: &mut Me
     assert_eq!(*tables, expected, "{request:?} of task {task} on {sizes:?}");
 }
 
+/// Plays on a board for a while, and then damages it a few times. Says how often.
+fn damaged_board(random: &mut Random, sizes: Sizes, met: &mut Met) -> u64 {
+    let mut tables = Tables::for_sizes(sizes);
+    let first = random.one_of(&[1, 2, TOP_VERSION - 1, TOP_VERSION]);
+    assert_eq!(tables.open(sizes, first).number, 0);
+    for _ in 0..random.below(60) {
+        one_call(random, sizes, &mut tables, met);
+    }
+    let times = 1 + random.below(3);
+    for _ in 0..times {
+        damage(random, sizes, &mut tables);
+        for _ in 0..3 {
+            one_call(random, sizes, &mut tables, met);
+        }
+    }
+    times as u64
+}
+
+fn small_sizes(random: &mut Random) -> Sizes {
+    Sizes { words: 1 + random.below(6), records: 1 + random.below(4), tasks: 1 + random.below(3) }
+}
+
 #[test]
 fn damaged_tables() {
     let mut random = Random::from_seed(4);
     let mut met = Met::default();
     for _ in 0..15_000 {
-        let sizes = Sizes { words: 1 + random.below(6), records: 1 + random.below(4), tasks: 1 + random.below(3) };
-        let mut tables = Tables::for_sizes(sizes);
-        let first = random.one_of(&[1, 2, TOP_VERSION - 1, TOP_VERSION]);
-        assert_eq!(tables.open(sizes, first).number, 0);
-        for _ in 0..random.below(60) {
-            one_call(&mut random, sizes, &mut tables, &mut met);
-        }
-        for _ in 0..1 + random.below(3) {
-            damage(&mut random, sizes, &mut tables);
-            for _ in 0..3 {
-                one_call(&mut random, sizes, &mut tables, &mut met);
-            }
-        }
+        let sizes = small_sizes(&mut random);
+        damaged_board(&mut random, sizes, &mut met);
     }
     // Some damage is unsound, and some leads to a sound table that no opening reaches.
     assert!(met.numbers[1] > 10_000 && met.numbers[0] > 10_000);
+}
+
+/// The check takes another room by the number of records, and compares many entries only where many share a record.
+#[test]
+#[ignore = "takes long: cargo test --release --test against_second_machine -- --ignored --nocapture"]
+fn ten_million_damaged_tables() {
+    let mut random = Random::from_seed(6);
+    let mut met = Met::default();
+    let mut tables = 0;
+    while tables < 10_000_000 {
+        let sizes = match random.below(400) {
+            0 => Sizes { words: 1100, records: random.one_of(&[63, 64, 65, 255, 256, 257, 1024]), tasks: 2 },
+            1..=40 => Sizes { words: 7 + random.below(30), records: 1 + random.below(3), tasks: 1 + random.below(2) },
+            _ => small_sizes(&mut random),
+        };
+        tables += damaged_board(&mut random, sizes, &mut met);
+    }
+    let calls: u64 = met.numbers.iter().sum();
+    println!("{tables} damaged tables, {calls} calls, {} of them on unsound tables: 0 differences", met.numbers[1]);
 }
 
 #[test]

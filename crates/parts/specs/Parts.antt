@@ -1,5 +1,5 @@
 -- What the contracts of a table's parts cite beside crate memory's definitions.
-use Prim.Native.Nat.{ℕ}
+use Prim.Native.Nat.{ℕ, _+_, _/_}
 use mathlib.Core.Bool.{Bool, not, _&&_}
 use lib.Dec.{eqb}
 use Rattle.memory.specs.declared.Sizes.{Sizes}
@@ -24,3 +24,7 @@ ownsFrom z q = if steps (q .phase) then countsFrom (q .phase) else limit z
 unfoldable pub recordOk : Held → Bool → Bool
 recordOk (Version v) owned = within 1 topVersion v
 recordOk (Owner t) owned = owned
+
+-- one divided by a number of records, and a little more, with 32 bits behind the point
+abbrev pub inverse : ℕ → ℕ
+inverse n = 4294967296 / n + 1

@@ -2,9 +2,9 @@
 ghost use mathlib.Core.Path.{_≡_};
 ghost use mathlib.Core.Bool.{true};
 ghost use Prim.Native.Nat.{_<_, _≤_, _%_};
-ghost use Rattle.memory.specs.Pieces.{memory, mostRecords, heldOf, placeOf, entryOf};
+ghost use Rattle.memory.specs.Pieces.{memory, mostWords, mostRecords, heldOf, placeOf, entryOf};
 ghost use Rattle.memory.specs.Sound.{within, sizesOk, lengthsOk, placeOk, entryOk};
-ghost use Rattle.parts.specs.Parts.{agree, ownsFrom, recordOk};
+ghost use Rattle.parts.specs.Parts.{agree, ownsFrom, recordOk, inverse};
 use memory::Sizes;
 
 // §3.5: some codes of phases, as a task's row holds them.
@@ -117,12 +117,25 @@ pub fn agree(entry: [u32; 5], other: [u32; 5]) -> bool
     entry[0] != other[0] && (entry[3] == other[3] && entry[4] == other[4])
 }
 
-// The record of an entry's address.
-pub fn record_of(sizes: Sizes, entry: [u32; 5]) -> usize
+// One, in numbers with 32 bits behind the point.
+const ONE: usize = 4294967296;
+
+// One divided by the number of records, and a little more, in such numbers.
+pub fn inverse_of(sizes: Sizes) -> usize
     requires { ⌜ (0 < sizes .records) × (sizes .records ≤ mostRecords) ⌝ }
+    ensures { λ r. ⌜ r ≡ inverse (sizes .records) ⌝ }
+{
+    ONE / sizes.records + 1
+}
+
+// The record of an entry's address, by that inverse: a walk over many entries divides once. Exact up to the limits of a board.
+pub fn record_of(sizes: Sizes, by: usize, entry: [u32; 5]) -> usize
+    requires { ⌜ (0 < sizes .records) × (sizes .records ≤ mostRecords) × (entryOf entry .address < mostWords) × (by ≡ inverse (sizes .records)) ⌝ }
     ensures { λ r. ⌜ (r ≡ entryOf entry .address % sizes .records) × (r < sizes .records) ⌝ }
 {
-    (entry[0] % (sizes.records as u32)) as usize
+    let address = entry[0] as usize;
+    let quotient = address * by / ONE;
+    address - quotient * sizes.records
 }
 
 // §10.7, §10.8: what a record holds, where it is known whether its owner has an entry on it.

@@ -140,7 +140,7 @@ fn run(
     };
     let body = session::body(session, kind);
     let sizes = asking::sizes_of(body);
-    let first = session::four_at(body, 5);
+    let first = asking::first_of(body);
     let w = at_most(sizes.words, memory::MOST_WORDS);
     let r = at_most(sizes.records, memory::MOST_RECORDS);
     let t = at_most(sizes.tasks, memory::MOST_TASKS);

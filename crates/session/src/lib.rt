@@ -270,16 +270,3 @@ pub fn number(body: &[u8], kind: Kind, field: usize) -> u32
     let row = widths(kind);
     number_at(body, row[field], offset(kind, field))
 }
-
-// The numbers of two and of four bytes at a place of a body.
-pub fn two_at(body: &[u8], at: usize) -> u16
-    ensures { λ r. ⌜ r ≡ spec.numberAt 2 at (now (body .entry)) ⌝ }
-{
-    number_at(body, 2, at) as u16
-}
-
-pub fn four_at(body: &[u8], at: usize) -> u32
-    ensures { λ r. ⌜ r ≡ spec.numberAt 4 at (now (body .entry)) ⌝ }
-{
-    number_at(body, 4, at)
-}

@@ -6,21 +6,25 @@ use mathlib.Core.Path.{_≡_, refl, sym, ap, _∙_}
 use mathlib.Core.Logic.{⊎-elim}
 use mathlib.Core.List.{List, []}
 use mathlib.Core.Bool.{Bool, true, false, _&&_, _||_}
-use lib.ListN.{length, getD, set, replicate, length-set, length-replicate, getD-replicate}
+use lib.ListN.{length, getD, set, length-set}
 use lib.Dec.{leb, ltb, eqb}
-use borrow.Author.Tests.{lt-ltb, le-ltb, le-leb, lt-leb, eq-eqb, ne-eqb, ltb-true, ltb-false}
+use borrow.Author.Tests.{lt-ltb, le-ltb, le-leb, lt-leb, eq-eqb, ne-eqb, leb-true, ltb-true, ltb-false}
 use Rattle.memory.specs.declared.Sizes.{Sizes}
 use Rattle.memory.specs.declared.Held.{Held}
 use Rattle.memory.specs.declared.Held.the-variants.{Version, Owner}
 use Rattle.memory.specs.declared.Place.{Place}
 use Rattle.memory.specs.declared.Entry.{Entry}
 use Rattle.memory.specs.Pieces.{if_then_else_, Memory, steps, heldOf, held, firstOwner, place, placeOf, entry, limit}
-use Rattle.memory.specs.Sound.{allBelow, someBelow, countsFrom, ownerOk, heldOk, taskOk}
+use Rattle.memory.specs.Sound.{allBelow, someBelow, countsFrom, placeOk, ownerOk, heldOk, taskOk}
 use Rattle.parts.specs.Parts.{ownsFrom, recordOk}
 use Rattle.sound.specs.Walk.{recordsOk}
-use Rattle.memory.proofs.Tools.{same?, or-right-make, and-0, below-at}
+use Rattle.memory.proofs.Tools.{same?, or-right-make, and-0, and-1, below-at}
 use Rattle.parts.proofs.Tests.{or-none, and-false, below-same, after-set}
-use Rattle.sound.proofs.Pairs.{count-most}
+
+-- a row that is right has at most 64 entries
+pub count-most : (z : Sizes) (row : List ℕ) → placeOk z row (placeOf row) ≡ true → getD row 0 0 ≤ 64
+unfolding placeOk placeOf limit
+count-most z row h = leb-true (getD row 0 0) 64 (search (and-0, and-1))
 
 -- of the first i entries, one from place `from` on is on record r
 unfoldable pub onRecord : ℕ → ℕ → ℕ → (ℕ → Entry) → ℕ → Bool
@@ -102,13 +106,13 @@ vouched z m t i r (Version v) = false
 vouched z m t i r (Owner u) = onRecord (z .records) r (ownsFrom z (place m u)) (entry z m u) (reach m t i u)
 
 pub record Vouched (z : Sizes) (m : Memory) (t i : ℕ) (owned : List Bool) : Type 0 where
-  pub size : length owned ≡ 1024
+  pub size : z .records ≤ length owned
   pub each : (r : ℕ) → r < z .records → getD owned r false ≡ vouched z m t i r (held m r)
 
 module _ (z : Sizes) (m : Memory) where
-  pub vouched-none : z .records ≤ 1024 → Vouched z m 0 0 (replicate 1024 false)
+  pub vouched-none : {owned : List Bool} → z .records ≤ length owned → ((r : ℕ) → r < z .records → getD owned r false ≡ false) → Vouched z m 0 0 owned
   unfolding vouched onRecord someBelow
-  vouched-none most = record { size = length-replicate 1024 false; each = λ r h. getD-replicate 1024 r false false (omega arith) ∙ sym (go r (held m r)) }
+  vouched-none k f = record { size = k; each = λ r h. f r h ∙ sym (go r (held m r)) }
     where
       go : (r : ℕ) (h : Held) → vouched z m 0 0 r h ≡ false
       go r (Version v) = refl
@@ -162,11 +166,11 @@ module _ (z : Sizes) (m : Memory) where
       vouched-other d =
           vouched-kept (λ x e. and-false (leb (ownsFrom z (place m t)) i) (ne-eqb _ x (λ q. d (ap (λ (y : ℕ). getD (m .records) y 0) (at ∙ q) ∙ owner-number _ t e))))
 
-      pub vouched-more : r < 1024 → ownsFrom z (place m t) ≤ i → getD (m .records) r 0 ≡ firstOwner + t → Vouched z m t (i + 1) (set owned r true)
+      pub vouched-more : r < z .records → ownsFrom z (place m t) ≤ i → getD (m .records) r 0 ≡ firstOwner + t → Vouched z m t (i + 1) (set owned r true)
       unfolding held
       vouched-more k l e =
           record {
-            size = length-set owned r true ∙ v .size;
+            size = omega (arith, length-set owned r true, v .size);
             each = λ x h.
                 ⊎-elim
                 (λ w. w .1 ∙ sym (found t i x (ap (λ (y : ℕ). held m y) (w .0) ∙ ap heldOf e ∙ number-owner t) (rw (le-leb (ownsFrom z (place m t)) i l) (eq-eqb _ x (sym at ∙ sym (w .0))))))

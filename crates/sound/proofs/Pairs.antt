@@ -1,19 +1,19 @@
 -- The entries of a task against those before them: what the walk notes, and the faults that it meets.
 use Prim.Native.Nat.{ℕ, _+_, _%_, _≤_, _<_}
 use native.Mathlib.Omega.{arith}
-use mathlib.Core.Path.{_≡_, sym, ap, _∙_}
-use mathlib.Core.Logic.{⊎-elim}
-use mathlib.Core.List.{List, []}
-use mathlib.Core.Bool.{Bool, true, false, _&&_}
-use lib.ListN.{length, getD, set, length-set}
-use borrow.Author.Tests.{eq-eqb, ne-eqb, leb-true}
+use mathlib.Core.Path.{_≡_, refl, sym, ap, _∙_}
+use mathlib.Core.Logic.{⊎-elim, _⊎_, inl, inr}
+use mathlib.Core.List.{List}
+use mathlib.Core.Bool.{Bool, true, false}
+use lib.ListN.{length, getD, set}
+use lib.Dec.{ltb}
+use borrow.Author.Tests.{eq-eqb, ne-eqb, eqb-true, ltb-true, ltb-false}
 use Rattle.memory.specs.declared.Sizes.{Sizes}
 use Rattle.memory.specs.declared.Entry.{Entry}
-use Rattle.memory.specs.Pieces.{Memory, placeOf, place, entry, limit}
-use Rattle.memory.specs.Sound.{allBelow, apart, entryOk, entriesOk, placeOk, taskOk}
+use Rattle.memory.specs.Sound.{allBelow, apart, entryOk, entriesOk}
 use Rattle.parts.specs.Parts.{agree}
-use Rattle.memory.proofs.Tools.{and-0, and-1, below-make}
-use Rattle.parts.proofs.Tests.{and-false, below-fault, after-set}
+use Rattle.memory.proofs.Tools.{same?, and-0, and-1, below-at, below-make}
+use Rattle.parts.proofs.Tests.{after-set}
 
 -- two entries on one record agree or are a fault; on two records they are apart
 module _ (n : ℕ) (e f : Entry) where
@@ -25,63 +25,119 @@ module _ (n : ℕ) (e f : Entry) where
   unfolding apart
   apart-two k = rw (ne-eqb (e .address) (f .address) (λ h. k (ap (λ (a : ℕ). a % n) h)), ne-eqb (e .address % n) (f .address % n) k)
 
--- entry i of a task is apart from each of the first j
-abbrev pub apartBelow : Sizes → Memory → ℕ → ℕ → ℕ → Bool
-apartBelow z m t i j = allBelow j (λ k. apart (z .records) (entry z m t k) (entry z m t i))
+pub apart-never : (n : ℕ) (e f : Entry) → e .address ≡ f .address → apart n e f ≡ false
+unfolding apart
+apart-never n e f h = rw (eq-eqb (e .address) (f .address) h)
 
--- What is noted of the first i entries: the record of each, and at that record the task's mark.
-pub record Noted (n : ℕ) (e : ℕ → Entry) (mark : ℕ) (seen last : List ℕ) (i : ℕ) : Type 0 where
-  pub seen-size : length seen ≡ 64
-  pub last-size : length last ≡ 1024
-  pub seen-at : (k : ℕ) → k < i → getD seen k 0 ≡ e k .address % n
-  pub last-at : (k : ℕ) → k < i → getD last (e k .address % n) 0 ≡ mark
+-- two entries on one record: the same versions
+abbrev Alike : Entry → Entry → Type 0
+Alike e f = (e .old .version ≡ f .old .version) × (e .new .version ≡ f .new .version)
 
-module _ {n : ℕ} {e : ℕ → Entry} {mark : ℕ} {seen last : List ℕ} where
-  pub noted-none : length seen ≡ 64 → length last ≡ 1024 → Noted n e mark seen last 0
-  noted-none h k = record { seen-size = h; last-size = k; seen-at = λ k l. absurd (omega arith); last-at = λ k l. absurd (omega arith) }
+agree-alike : (e f : Entry) → agree e f ≡ true → Alike e f
+unfolding agree
+agree-alike e f h = (eqb-true (e .old .version) (f .old .version) (search (and-0, and-1)), eqb-true (e .new .version) (f .new .version) (search (and-0, and-1)))
 
-  pub noted-more : {i r : ℕ} → Noted n e mark seen last i → i < 64 → r < 1024 → r ≡ e i .address % n → Noted n e mark (set seen i r) (set last r mark) (i + 1)
-  noted-more {i} {r} h k l q =
+alike-agree : (e f : Entry) → (e .address ≡ f .address → ⊥) → Alike e f → agree e f ≡ true
+unfolding agree
+alike-agree e f d h = rw (ne-eqb (e .address) (f .address) d, eq-eqb (e .old .version) (f .old .version) (h .0), eq-eqb (e .new .version) (f .new .version) (h .1))
+
+pub agree-of : {e f e′ f′ : Entry} {b : Bool} → e ≡ e′ → f ≡ f′ → agree e f ≡ b → agree e′ f′ ≡ b
+agree-of {e} {f} {e′} {f′} p q h = ap (λ (x : Entry). agree x f′) (sym p) ∙ ap (agree e) (sym q) ∙ h
+
+-- of entries that are right, any two on one record have the same versions
+module _ (z : Sizes) (e : ℕ → Entry) (i : ℕ) (ok : entriesOk z e i ≡ true) where
+  alike-before : (j k : ℕ) → j < k → k < i → e j .address % z .records ≡ e k .address % z .records → Alike (e j) (e k)
+  unfolding entriesOk
+  alike-before j k l h q =
+      agree-alike (e j) (e k)
+      (sym (apart-one (z .records) (e j) (e k) q) ∙ below-at k _ (and-1 (entryOk z (e k)) _ (below-at i _ ok k h)) j l)
+
+  pub alike-all : (j k : ℕ) → j < i → k < i → e j .address % z .records ≡ e k .address % z .records → Alike (e j) (e k)
+  alike-all j k l h q = go (ltb j k) refl (ltb k j) refl
+    where
+      go : (a : Bool) → ltb j k ≡ a → (b : Bool) → ltb k j ≡ b → Alike (e j) (e k)
+      go true p b r = alike-before j k (ltb-true j k p) h q
+      go false p true r = let w = alike-before k j (ltb-true k j r) l (sym q) in (sym (w .0), sym (w .1))
+      go false p false r =
+          let u : k ≤ j = ltb-false j k p in
+          let v : j ≤ k = ltb-false k j r in
+          let w : j ≡ k = omega arith in (ap (λ (x : ℕ). e x .old .version) w, ap (λ (x : ℕ). e x .new .version) w)
+
+  -- an entry that has the versions of one of them on its record, and no address of theirs, is apart from them all
+  pub apart-all : (e′ : Entry) (f : ℕ) → f < i → e f .address % z .records ≡ e′ .address % z .records → agree (e f) e′ ≡ true
+      → ((k : ℕ) → k < i → e k .address ≡ e′ .address → ⊥) → allBelow i (λ k. apart (z .records) (e k) e′) ≡ true
+  apart-all e′ f l q h d =
+      below-make i _ (λ k m.
+      ⊎-elim
+      (λ (p : e k .address % z .records ≡ e′ .address % z .records).
+      let u = alike-all k f m l (p ∙ sym q) in
+      let v = agree-alike (e f) e′ h in
+      apart-one (z .records) (e k) e′ p ∙ alike-agree (e k) e′ (d k m) (u .0 ∙ v .0, u .1 ∙ v .1))
+      (λ (p : e k .address % z .records ≡ e′ .address % z .records → ⊥). apart-two (z .records) (e k) e′ p)
+      (same? (e k .address % z .records) (e′ .address % z .records)))
+
+pub address-below : (z : Sizes) (e : Entry) → entryOk z e ≡ true → e .address < z .words
+unfolding entryOk
+address-below z e h = ltb-true (e .address) (z .words) (search (and-0, and-1))
+
+-- What a record's two cells say of the first i entries: none is on it, and its mark is an earlier task's; or the latest one on it.
+abbrev Met : ℕ → (ℕ → Entry) → ℕ → ℕ → ℕ → ℕ → ℕ → Type 0
+Met n e mark i r l f = ((l < mark) × ((k : ℕ) → k < i → e k .address % n ≡ r → ⊥)) ⊎ ((l ≡ mark) × (f < i) × (e f .address % n ≡ r))
+
+-- What is noted of the first i entries: the address of each, and at each record the latest entry on it.
+pub record Noted (n : ℕ) (e : ℕ → Entry) (mark : ℕ) (told last latest : List ℕ) (i : ℕ) : Type 0 where
+  pub told-at : (k : ℕ) → k < i → getD told k 0 ≡ e k .address
+  pub met : (r : ℕ) → r < n → Met n e mark i r (getD last r 0) (getD latest r 0)
+
+module _ {n : ℕ} {e : ℕ → Entry} {mark : ℕ} {told last latest : List ℕ} where
+  pub noted-none : ((r : ℕ) → r < n → getD last r 0 < mark) → Noted n e mark told last latest 0
+  noted-none f =
       record {
-        seen-size = length-set seen i r ∙ h .seen-size;
-        last-size = length-set last r mark ∙ h .last-size;
-        seen-at = λ k' d.
-            ⊎-elim
-            (λ w. w .1 ∙ q ∙ ap (λ (x : ℕ). e x .address % n) (sym (w .0)))
-            (λ w. w .1 ∙ h .seen-at k' (omega arith))
-            (after-set seen i k' r 0 (omega arith));
-        last-at = λ k' d.
-            ⊎-elim
-            (λ w. w .1)
-            (λ w. let o : (k' ≡ i → ⊥) = λ p. w .0 (ap (λ (x : ℕ). e x .address % n) p ∙ sym q) in w .1 ∙ h .last-at k' (omega arith))
-            (after-set last r (e k' .address % n) mark 0 (omega arith));
+        told-at = λ k l. absurd (omega arith);
+        met = λ r l. inl (f r l, λ k m p. absurd (omega arith));
       }
 
-  -- an entry on a record that has not the mark is apart from all before it
-  pub fresh : {i : ℕ} → Noted n e mark seen last i → (getD last (e i .address % n) 0 ≡ mark → ⊥) → allBelow i (λ k. apart n (e k) (e i)) ≡ true
-  fresh {i} h d = below-make i _ (λ k l. apart-two n (e k) (e i) (λ p. d (ap (λ (x : ℕ). getD last x 0) (sym p) ∙ h .last-at k l)))
+  module _ {i r : ℕ} (h : Noted n e mark told last latest i) (q : r ≡ e i .address % n) where
+    met-more : r < length last → r < length latest → (x : ℕ) → x < n → Met n e mark (i + 1) x (getD (set last r mark) x 0) (getD (set latest r i) x 0)
+    met-more l l′ x hx = go (after-set last r x mark 0 l) (after-set latest r x i 0 l′)
+      where
+        old : (x ≡ r → ⊥) → Met n e mark i x (getD last x 0) (getD latest x 0) → Met n e mark (i + 1) x (getD last x 0) (getD latest x 0)
+        old d (inl w) = inl (w .0, λ k m p. ⊎-elim (λ (u : k ≡ i). d (sym p ∙ ap (λ (y : ℕ). e y .address % n) u ∙ sym q)) (λ (u : k ≡ i → ⊥). w .1 k (omega arith) p) (same? k i))
+        old d (inr w) = inr (w .0, omega (arith, w .1), w .2)
 
--- the faults of task t: of its row, of entry i by itself, of the pair (j, i)
-module _ (z : Sizes) (m : Memory) (t : ℕ) (ht : t < z .tasks) where
-  abbrev faulty : Type 0
-  faulty = allBelow (z .tasks) (λ t. taskOk z m t) ≡ false
+        go : ((x ≡ r) × (getD (set last r mark) x 0 ≡ mark)) ⊎ ((x ≡ r → ⊥) × (getD (set last r mark) x 0 ≡ getD last x 0))
+            → ((x ≡ r) × (getD (set latest r i) x 0 ≡ i)) ⊎ ((x ≡ r → ⊥) × (getD (set latest r i) x 0 ≡ getD latest x 0))
+            → Met n e mark (i + 1) x (getD (set last r mark) x 0) (getD (set latest r i) x 0)
+        go (inl a) (inl b) = inr (a .1, omega (arith, b .1), ap (λ (y : ℕ). e y .address % n) (b .1) ∙ sym q ∙ sym (a .0))
+        go (inl a) (inr b) = absurd (b .0 (a .0))
+        go (inr a) (inl b) = absurd (a .0 (b .0))
+        go (inr a) (inr b) = rw (a .1, b .1) (old (a .0) (h .met x hx))
 
-  pub place-fault : placeOk z (getD (m .places) t []) (place m t) ≡ false → faulty
-  unfolding taskOk
-  place-fault h = below-fault _ (z .tasks) t ht (rw h)
+    pub noted-more : {a : ℕ} → a ≡ e i .address → i < length told → r < length last → r < length latest
+        → Noted n e mark (set told i a) (set last r mark) (set latest r i) (i + 1)
+    noted-more {a} p k l l′ =
+        record {
+          told-at = λ k′ d.
+              ⊎-elim
+              (λ w. w .1 ∙ p ∙ ap (λ (x : ℕ). e x .address) (sym (w .0)))
+              (λ w. w .1 ∙ h .told-at k′ (omega arith))
+              (after-set told i k′ a 0 k);
+          met = met-more l l′;
+        }
 
-  module _ (i : ℕ) (hi : i < place m t .count) where
-    in-run : (entryOk z (entry z m t i) && apartBelow z m t i i) ≡ false → faulty
-    unfolding taskOk entriesOk
-    in-run h = below-fault _ (z .tasks) t ht (and-false (placeOk z (getD (m .places) t []) (place m t)) (below-fault _ (place m t .count) i hi h))
+    module _ (l : r < n) where
+      -- an entry on a record that has not the mark is apart from all before it
+      pub fresh : (getD last r 0 ≡ mark → ⊥) → allBelow i (λ k. apart n (e k) (e i)) ≡ true
+      fresh d =
+          ⊎-elim
+          (λ w. below-make i _ (λ k m. apart-two n (e k) (e i) (λ p. w .1 k m (p ∙ sym q))))
+          (λ w. absurd (d (w .0)))
+          (h .met r l)
 
-    pub entry-fault : entryOk z (entry z m t i) ≡ false → faulty
-    entry-fault h = in-run (rw h)
+      -- the latest entry on a record that has the mark
+      pub latest-on : getD last r 0 ≡ mark → (getD latest r 0 < i) × (e (getD latest r 0) .address % n ≡ e i .address % n)
+      latest-on d = ⊎-elim (λ w. absurd (omega (arith, w .0, d))) (λ w. (w .1, w .2 ∙ q)) (h .met r l)
 
-    pub pair-fault : (j : ℕ) → j < i → apart (z .records) (entry z m t j) (entry z m t i) ≡ false → faulty
-    pair-fault j hj h = in-run (and-false (entryOk z (entry z m t i)) (below-fault _ i j hj h))
-
--- a row that is right has at most 64 entries
-pub count-most : (z : Sizes) (row : List ℕ) → placeOk z row (placeOf row) ≡ true → getD row 0 0 ≤ 64
-unfolding placeOk placeOf limit
-count-most z row h = leb-true (getD row 0 0) 64 (search (and-0, and-1))
+  -- at the task's end its marks are below the next task's
+  pub marks-below : {i : ℕ} → Noted n e mark told last latest i → (r : ℕ) → r < n → getD last r 0 < mark + 1
+  marks-below h r l = ⊎-elim (λ w. omega (arith, w .0)) (λ w. omega (arith, w .0)) (h .met r l)

@@ -3,37 +3,52 @@ ghost use mathlib.Core.Path.{_≡_};
 ghost use mathlib.Core.List.{[]};
 ghost use Prim.Native.Nat.{_≤_};
 ghost use lib.ListN.{length};
-ghost use Rattle.memory.specs.Pieces.{memory};
+ghost use Rattle.memory.specs.Pieces.{memory, mostRecords};
 ghost use Rattle.memory.specs.Sound.{sound};
-ghost use Rattle.sound.specs.Walk.{Fit, tablesOk, recordsOk};
+ghost use Rattle.sound.specs.Walk.{Fit, Room, tablesOk, recordsOk};
 use memory::Sizes;
 
-// What every record holds.
+// How many records a small and a middling board have at most, for the room that the walk takes.
+const FEW_RECORDS: usize = 64;
+
+const SOME_RECORDS: usize = 256;
+
+// What every record holds. The faults are counted and the walk goes to its end, so that the compiler takes many records at a time.
 fn records_ok(records: &[u32], owned: &[bool]) -> bool
-    requires { ⌜ length (now records) ≤ length (now owned) ⌝ }
+    requires { ⌜ (length (now records) ≤ length (now owned)) × (length (now records) ≤ mostRecords) ⌝ }
     ensures { λ r. ⌜ r ≡ recordsOk (now (records .entry)) (now (owned .entry)) (length (now (records .entry))) ⌝ }
 {
+    let mut faults: u16 = 0;
     let mut r: usize = 0;
     while r < records.len() {
         if !parts::record_ok(records[r], owned[r]) {
-            return false;
+            faults += 1;
         }
         r += 1;
     }
-    true
+    faults == 0
 }
 
-// Each task's row and entries, and then the records. Three tables save work: `seen` has the record of each entry of the task
-// that was passed, so that it is computed once; `last` has for each record the mark of the last task with an entry on it, so that
-// only an entry on a record that its task has met is held against those before it; `owned` has the records whose owner was
-// found to have an entry on them, so that no record is searched for.
-fn tables_ok(sizes: Sizes, records: &[u32], places: &[[u32; 3]], entries: &[[u32; 5]]) -> bool
-    requires { ⌜ Fit sizes (memory [] (now records) (now places) (now entries)) ⌝ }
+// Each task's row and entries, and then the records. Four tables save work: `told` has the address of each entry of the task that
+// was passed; `last` has for each record the mark of the last task with an entry on it, and `latest` that entry, so that only an
+// entry on a record that its task has met is held against others: its versions against that one's, since all before it agree,
+// and its address against all; `owned` has the records whose owner was found to have an entry on them, so that no record is
+// searched for. The pairs go to `until`, which is i, in a form that tells the compiler that it is below 64.
+fn tables_ok(
+    sizes: Sizes,
+    records: &[u32],
+    places: &[[u32; 3]],
+    entries: &[[u32; 5]],
+    last: &mut [u8],
+    latest: &mut [u8],
+    owned: &mut [bool],
+) -> bool
+    requires { ⌜ Fit sizes (memory [] (now records) (now places) (now entries)) × Room sizes (now last) (now latest) (now owned) ⌝ }
     ensures { λ r. ⌜ r ≡ tablesOk sizes (memory [] (now (records .entry)) (now (places .entry)) (now (entries .entry))) ⌝ }
 {
-    let mut seen = [0usize; memory::MOST_ENTRIES];
-    let mut last = [0u8; memory::MOST_RECORDS];
-    let mut owned = [false; memory::MOST_RECORDS];
+    let by = parts::inverse_of(sizes);
+    // Larger limits end here first: an address is noted in 16 bits, a task's mark and an entry's place in 8.
+    let mut told = [0u16; memory::MOST_ENTRIES];
     let mut t: usize = 0;
     'tasks: while t < sizes.tasks {
         let place = places[t];
@@ -44,29 +59,36 @@ fn tables_ok(sizes: Sizes, records: &[u32], places: &[[u32; 3]], entries: &[[u32
         let from = parts::owns_from(sizes, place);
         let owner = memory::FIRST_OWNER + t as u32;
         let mark = (t + 1) as u8;
-        let run = memory::MOST_ENTRIES * t;
+        let start = memory::MOST_ENTRIES * t;
+        let run = &entries[start..];
+        // A list that a task's row leads to, as one of sleepers, is walked here, beside its entries.
         let mut i: usize = 0;
         'entries: while i < n {
-            let entry = entries[run + i];
+            // From here on a fault is that of entry i of task t: what tells the entry at fault goes with these breaks.
+            let entry = run[i];
             if !parts::entry_ok(sizes, entry) {
                 break 'tasks;
             }
-            let record = parts::record_of(sizes, entry);
-            let mut j = i;
+            let record = parts::record_of(sizes, by, entry);
+            let address = entry[0] as u16;
             if last[record] == mark {
-                j = 0;
-            }
-            'pairs: while j < i {
-                if seen[j] == record {
-                    let other = entries[run + j];
-                    if !parts::agree(other, entry) {
+                let at = latest[record] as usize;
+                let other = run[at];
+                if !parts::agree(other, entry) {
+                    break 'tasks;
+                }
+                let until = i % memory::MOST_ENTRIES;
+                let mut j: usize = 0;
+                'pairs: while j < until {
+                    if told[j] == address {
                         break 'tasks;
                     }
+                    j += 1;
                 }
-                j += 1;
             }
-            seen[i] = record;
+            told[i] = address;
             last[record] = mark;
+            latest[record] = i as u8;
             if from <= i {
                 if records[record] == owner {
                     owned[record] = true;
@@ -76,7 +98,30 @@ fn tables_ok(sizes: Sizes, records: &[u32], places: &[[u32; 3]], entries: &[[u32
         }
         t += 1;
     }
-    t == sizes.tasks && records_ok(records, &owned)
+    t == sizes.tasks && records_ok(records, owned)
+}
+
+// The same with room for `last`, `latest` and `owned`, in this order: the fewer records, the less there is to clear.
+fn room_ok(sizes: Sizes, records: &[u32], places: &[[u32; 3]], entries: &[[u32; 5]]) -> bool
+    requires { ⌜ Fit sizes (memory [] (now records) (now places) (now entries)) ⌝ }
+    ensures { λ r. ⌜ r ≡ tablesOk sizes (memory [] (now (records .entry)) (now (places .entry)) (now (entries .entry))) ⌝ }
+{
+    if sizes.records <= FEW_RECORDS {
+        let mut who = [0u8; FEW_RECORDS];
+        let mut at = [0u8; FEW_RECORDS];
+        let mut own = [false; FEW_RECORDS];
+        return tables_ok(sizes, records, places, entries, &mut who, &mut at, &mut own);
+    }
+    if sizes.records <= SOME_RECORDS {
+        let mut who = [0u8; SOME_RECORDS];
+        let mut at = [0u8; SOME_RECORDS];
+        let mut own = [false; SOME_RECORDS];
+        return tables_ok(sizes, records, places, entries, &mut who, &mut at, &mut own);
+    }
+    let mut who = [0u8; memory::MOST_RECORDS];
+    let mut at = [0u8; memory::MOST_RECORDS];
+    let mut own = [false; memory::MOST_RECORDS];
+    tables_ok(sizes, records, places, entries, &mut who, &mut at, &mut own)
 }
 
 // Whether the lent table is sound: the answer is the definition's, for any sizes and any four slices.
@@ -91,5 +136,5 @@ pub fn is_sound(
 {
     parts::sizes_ok(sizes)
         && parts::lengths_ok(sizes, words, records, places, entries)
-        && tables_ok(sizes, records, places, entries)
+        && room_ok(sizes, records, places, entries)
 }

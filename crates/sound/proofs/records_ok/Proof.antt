@@ -1,37 +1,72 @@
--- The records so far pass, up to the first that does not.
-use Prim.Native.Nat.{_≤_, _-_}
-use mathlib.Core.Path.{_≡_, refl, sym}
-use mathlib.Core.Bool.{true}
+-- The faults among the records so far, counted: the records pass where there is none.
+use Prim.Native.Nat.{ℕ, _+_, _≤_, _-_}
+use mathlib.Core.Path.{_≡_, refl, sym, ap, _∙_}
+use mathlib.Core.Logic.{inl, inr}
+use mathlib.Core.List.{List}
+use mathlib.Core.Bool.{Bool, true, false}
 use native.Mathlib.Omega.{arith}
+use native.Mathlib.Numerals.{add-one}
 use lib.ListN.{length}
+use lib.Dec.{eqb}
+use denote.Ref.{now}
 use borrow.Author.Needs.{needs}
+use borrow.Author.Tests.{ne-eqb}
 use Rattle.memory.specs.Sound.{allBelow}
 use Rattle.sound.specs.Walk.{recordsOk}
-use Rattle.parts.proofs.Tests.{refused, passed, below-more, below-all, below-fault}
+use Rattle.parts.proofs.Tests.{and-false, and-one, refused, passed}
+use Rattle.sound.proofs.Answer.{answer}
 use Rattle.sound.proofs.records_ok.Statement.{statement}
 use Rattle.sound.proofs.records_ok.Tie as tie
 
+-- one record more: a fault, or none
+module _ (p : ℕ → Bool) (i : ℕ) where
+  next-fault : p i ≡ false → allBelow (i + 1) p ≡ false
+  unfolding allBelow
+  next-fault h = rw add-one (and-false (allBelow i p) h)
+
+  next-good : p i ≡ true → allBelow (i + 1) p ≡ allBelow i p
+  unfolding allBelow
+  next-good h = rw (add-one, h) (and-one (allBelow i p))
+
+-- Before record r: none is at fault where none was counted.
+record Counted (records : List ℕ) (owned : List Bool) (faults r : ℕ) : Type 0 where
+  within : r ≤ length records
+  few : faults ≤ r
+  found : recordsOk records owned r ≡ eqb faults 0
+
 abbrev Inv-loop : tie.InvT-loop
-Inv-loop records owned r₀ r = (r ≤ length records) × (recordsOk records owned r ≡ true)
+Inv-loop records owned faults₀ r₀ faults r = Counted records owned faults r
 
 abbrev μ-loop : tie.MeasureT-loop
-μ-loop records owned r₀ r = length records - r
+μ-loop records owned faults₀ r₀ faults r = length records - r
 
-loop-holds : tie.Need-loop-holds Inv-loop μ-loop
+abbrev loop : (tie.InvT-loop → tie.MeasureT-loop → Type 0) → Type 0
+loop P = P Inv-loop μ-loop
+
+loop-holds : loop tie.Need-loop-holds
 unfolding recordsOk allBelow
-loop-holds c = (omega arith, refl)
+loop-holds c = record { within = omega arith; few = omega arith; found = refl }
 
-returns : tie.Need-returns Inv-loop μ-loop
+loop-again : loop tie.Need-loop-again
 unfolding recordsOk
-returns c = sym (below-fault _ _ _ (omega arith) (refused (c .before .record-ok .ensures) (c .if1 .taken)))
+loop-again c =
+    let e = c .before .record-ok .ensures in
+    let f = c .before .before .before .before .before .loop .inv .found in
+    elim (c .if1 .came) [
+      | inl (wrong, more) ↦
+          record {
+            within = omega arith;
+            few = omega arith;
+            found = next-fault _ _ (refused e (wrong .taken)) ∙ sym (ne-eqb (c .if1 .faults) 0 (λ (h : c .if1 .faults ≡ 0). omega arith));
+          }
+      | inr (right, same) ↦
+          record { within = omega arith; few = omega arith; found = next-good _ _ (passed e (right .left)) ∙ f ∙ ap (λ (x : ℕ). eqb x 0) (sym same) }
+    ]
 
-loop-again : tie.Need-loop-again Inv-loop μ-loop
-unfolding recordsOk
-loop-again c = (omega arith, below-more _ _ (c .before .before .before .before .before .loop .inv .1) (passed (c .before .record-ok .ensures) (c .if1 .left)))
-
-returns-2 : tie.Need-returns-2 Inv-loop μ-loop
-unfolding recordsOk
-returns-2 c = sym (below-all _ _ _ (c .before .loop .inv .1) (c .loop-test .left) (c .before .loop .inv .0))
+returns : loop tie.Need-returns
+returns c =
+    let e : c .before .loop .r ≡ length (now (c .before .before .before .before .args .records)) = omega arith in
+    sym (rw e at (c .before .loop .inv .found))
 
 pub records-ok-spec : {M : Type 1} → statement M
 records-ok-spec =
@@ -40,12 +75,12 @@ records-ok-spec =
     Inv-loop
     μ-loop
     loop-holds
-    (λ c. search needs)
-    (λ c. search needs)
-    (λ c. search needs)
-    (λ c κs. search needs)
-    returns
-    (λ c. search needs)
-    (λ c. search needs)
+    (answer (loop tie.Need-mul-record-ok) (λ c. search needs))
+    (answer (loop tie.Need-shared-slice-read-record-ok) (λ c. search needs))
+    (answer (loop tie.Need-shared-slice-read-record-ok-2) (λ c. search needs))
+    (answer (loop tie.Need-record-ok-requires) (λ c κs. search needs))
+    (answer (loop tie.Need-add-faults) (λ c. search needs))
+    (answer (loop tie.Need-add-r) (λ c. search needs))
+    (answer (loop tie.Need-loop-less) (λ c. search needs))
     loop-again
-    returns-2)
+    returns)

@@ -1,0 +1,67 @@
+-- The loop over a task's entries.
+use Prim.Native.Nat.{_+_, _<_}
+use native.Mathlib.Omega.{arith}
+use mathlib.Core.Path.{_≡_, refl}
+use mathlib.Core.Logic.{inl, inr}
+use mathlib.Core.List.{[]}
+use lib.ListN.{length, getD, length-set}
+use Rattle.memory.specs.Pieces.{mostWords, place, entryOf}
+use Rattle.parts.proofs.Tests.{passed}
+use Rattle.sound.proofs.Pairs.{address-below}
+use Rattle.sound.proofs.Owners.{Vouched, vouched-early, vouched-other, vouched-more}
+use Rattle.sound.proofs.Found.{run, Apart, apart-fresh, apart-met, in-run, entries-more}
+use Rattle.sound.proofs.tables_ok.Proof.Loops.{walk, z, m, fit, of-task, by-itself, of-run, of-entry, its-task, entry}
+use Rattle.sound.proofs.tables_ok.Tie as tie
+
+-- its address is below the number of words
+address-few : (c : walk tie.Else3) → let k = of-task (of-run c) in entryOf (getD (run (m k) (k .tasks .t)) (by-itself c .entries .i) []) .address < mostWords
+address-few c = omega (arith, address-below _ _ (passed (c .before .entry-ok .ensures) (c .if3 .left)), fit (of-task (of-run c)) .words)
+
+pub record-of-requires : walk tie.Need-record-of-requires
+record-of-requires c κs = let k = of-task (of-run c) in (fit k .some, fit k .most, address-few c, k .before .inverse-of .ensures)
+
+pub cast-address : walk tie.Need-cast-address
+unfolding entryOf
+cast-address c = omega (arith, address-few (c .before))
+
+-- each table has a cell for the entry's record
+pub slice-read-if4 : walk tie.Need-slice-read-if4
+slice-read-if4 c = let e = entry (c .before) in omega (arith, e .known, e .found .wide .last)
+
+pub slice-write-last : walk tie.Need-slice-write-last
+slice-write-last c = let e = entry (c .before .before) in omega (arith, e .known, e .found .wide .last)
+
+pub slice-write-latest : walk tie.Need-slice-write-latest
+slice-write-latest c = let e = entry (c .before .before) in omega (arith, e .known, e .found .wide .latest)
+
+pub slice-write-owned : walk tie.Need-slice-write-owned
+slice-write-owned c = let e = entry (c .before .before .before .before .before) in omega (arith, e .known, e .found .owned .size)
+
+-- the entry is apart from all before it
+apart : (c : walk tie.Joined4) → let r = c .before .before in let k = of-task (its-task r) in Apart (z k) (m k) (k .tasks .t) (of-entry r .entries .i)
+unfolding entryOf
+apart c =
+    let e = entry (c .before .before) in
+    elim (c .if4 .came) [
+      | inl (met, _, _, agree, versions, pairs, all) ↦
+          apart-met e (met .taken) (passed (agree .ensures) (versions .left)) (λ x h. pairs .inv .others x (omega (arith, h, all .left, in-run e)))
+      | inr new ↦ apart-fresh e (new .left)
+    ]
+
+-- what is owned, with the entry
+vouched : (c : walk tie.Joined7) → let r = c .before .before .before in let k = of-task (its-task r) in
+    Vouched (z k) (m k) (k .tasks .t) (of-entry r .entries .i + 1) (c .if7 .owned) × (length (c .if7 .owned) ≡ length (of-entry r .entries .owned))
+unfolding place
+vouched c =
+    let e = entry (c .before .before .before) in
+    let v = e .found .owned in
+    let f = e .task .owns in
+    elim (c .if7 .came) [
+      | inl (late, _, own, owned) ↦ rw owned (vouched-more _ _ v (e .on) (e .known) (rw f at (late .taken)) (own .taken), simp length-set)
+      | inr (inl (_, _, own, owned)) ↦ rw owned (vouched-other _ _ v (e .on) (own .left), refl)
+      | inr (inr (late, owned)) ↦ rw owned (vouched-early _ _ v (e .on) (rw f at (late .left)), refl)
+    ]
+
+pub entries-again : walk tie.Need-entries-again
+unfolding entryOf
+entries-again c = let v = vouched c in entries-more (entry (c .before .before .before)) (apart (c .before)) (v .0) (v .1)

@@ -1,0 +1,46 @@
+-- An entry on a record that its task has met: the latest entry there, and the loop over the addresses told.
+use Prim.Native.Nat.{ℕ, _<_}
+use native.Mathlib.Omega.{arith}
+use mathlib.Core.Path.{sym, ap, _∙_}
+use mathlib.Core.Logic.{inl, inr}
+use lib.ListN.{getD}
+use Rattle.memory.proofs.Tools.{same?}
+use Rattle.sound.proofs.Found.{in-run, latest-at, run-length}
+use Rattle.sound.proofs.tables_ok.Proof.Loops.{walk, task, of-entry, its-task, entry}
+use Rattle.sound.proofs.tables_ok.Tie as tie
+
+-- the entry at hand is on a record with its task's mark
+module _ (c : walk tie.After-slice-known5) where
+  abbrev on-record : walk tie.After-record-of
+  on-record = c .before .before .before
+
+  latest-below : getD (of-entry on-record .entries .latest) (on-record .record-of .result) 0 < 64
+  latest-below = let e = entry on-record in omega (arith, latest-at e (c .before .if4 .taken) .0, in-run e)
+
+pub slice-read-at : walk tie.Need-slice-read-at
+slice-read-at c = let e = entry (on-record c) in omega (arith, e .known, e .found .wide .latest)
+
+pub cast-at : walk tie.Need-cast-at
+cast-at c = omega (arith, latest-below c)
+
+pub mul-other : walk tie.Need-mul-other
+mul-other c = omega (arith, latest-below c)
+
+pub shared-slice-copy-out-other : walk tie.Need-shared-slice-copy-out-other
+shared-slice-copy-out-other c = run-length (task (its-task (on-record c))) _ (latest-below c)
+
+pub pairs-holds : walk tie.Need-pairs-holds
+pairs-holds c = record { within = omega arith; others = λ k h e. absurd (omega arith) }
+
+pub pairs-again : walk tie.Need-pairs-again
+pairs-again c =
+    let p = c .before .before .pairs in
+    let told = of-entry (on-record (c .before .before .before .before .before .before)) .entries .told in
+    record {
+      within = omega arith;
+      others = λ k h e.
+          elim (same? k (p .j)) [
+            | inl q ↦ c .if6 .left (ap (λ (x : ℕ). getD told x 0) (sym q) ∙ e)
+            | inr q ↦ p .inv .others k (omega arith) e
+          ];
+    }
