@@ -80,7 +80,7 @@ impl Scene {
     /// Nanoseconds for a look-up: the check, and very little else.
     pub fn look(&self) -> f64 {
         nanoseconds(|| {
-            black_box(self.tables.look(self.sizes, black_box(self.addresses[0])));
+            let _ = black_box(self.tables.look(self.sizes, black_box(self.addresses[0])));
         })
     }
 }
@@ -124,7 +124,7 @@ impl Call {
         let record = address % sizes.records;
         let (place, held, word) = (tables.places[TASK], tables.records[record], tables.words[address]);
         nanoseconds(|| {
-            black_box(ask_library(&mut tables, sizes, TASK, black_box(self.request)));
+            let _ = black_box(ask_library(&mut tables, sizes, TASK, black_box(self.request)));
             tables.places[TASK] = place;
             tables.records[record] = held;
             tables.words[address] = word;
@@ -162,7 +162,7 @@ fn put_back(machine: &mut Machine, as_it_was: &Task) {
 pub fn opening(scene: &Scene) -> f64 {
     let mut tables = scene.tables.clone();
     nanoseconds(|| {
-        black_box(tables.open(black_box(scene.sizes), 1));
+        let _ = black_box(tables.open(black_box(scene.sizes), 1));
     })
 }
 

@@ -1,4 +1,5 @@
-/* A label task that sleeps on its tile. A trade wakes it, and it speaks the new text. */
+/* A label task that sleeps on its tile. A trade wakes it, and it speaks the new text. Both are whole turns,
+ * here call by call; chezumobari_turns.h has them ready. */
 #include "chezumobari.h"
 
 #include <stdio.h>
@@ -31,42 +32,51 @@ static int read_word(size_t address, uint32_t *value)
     return done(answer);
 }
 
-/* The label reads its tile and asks to sleep on it. What it read is spoken once it is asleep: then
- * it is the board, and stays the board until the label is woken. */
-static void read_tile(char *text, size_t size)
+/* Steps a task until it sleeps or is at its end: 20 to 23. */
+static uint32_t settle(size_t task)
+{
+    chezumobari_answer answer;
+    do
+        answer = chezumobari_step(CHEZUMOBARI_LENT(board), task);
+    while (answer.number < CHEZUMOBARI_ASLEEP && done(answer));
+    return answer.number;
+}
+
+/* One try of the label: it reads its tile and sleeps on it. 1 once it is asleep: then the text is the
+ * board, and stays the board until the label is woken. */
+static int sleep_on_tile(char *text, size_t size)
 {
     uint32_t owner, houses, mortgaged;
-    while (!(done(chezumobari_start(CHEZUMOBARI_LENT(board), LABEL)) && read_word(OWNER, &owner) &&
-             read_word(HOUSES, &houses) && read_word(MORTGAGED, &mortgaged) &&
-             done(chezumobari_wait(CHEZUMOBARI_LENT(board), LABEL))))
-        ;
+    if (!(done(chezumobari_start(CHEZUMOBARI_LENT(board), LABEL)) && read_word(OWNER, &owner) &&
+          read_word(HOUSES, &houses) && read_word(MORTGAGED, &mortgaged) &&
+          done(chezumobari_wait(CHEZUMOBARI_LENT(board), LABEL)) && settle(LABEL) == CHEZUMOBARI_ASLEEP))
+        return 0;
     snprintf(text, size, "Harbour Street. Owner: %s. Houses: %u.%s", player[owner], (unsigned)houses,
              mortgaged ? " Mortgaged." : "");
+    return 1;
 }
 
-/* The tile changes hands and its mortgage changes, both at once. */
-static void begin_trade(uint32_t owner, uint32_t mortgaged)
+/* One try of a trade: the tile changes hands and its mortgage changes, both at once. 1 if it committed. */
+static int trade(uint32_t owner, uint32_t mortgaged)
 {
-    while (!(done(chezumobari_start(CHEZUMOBARI_LENT(board), TRADE)) &&
-             done(chezumobari_write(CHEZUMOBARI_LENT(board), TRADE, OWNER, owner)) &&
-             done(chezumobari_write(CHEZUMOBARI_LENT(board), TRADE, MORTGAGED, mortgaged)) &&
-             done(chezumobari_commit(CHEZUMOBARI_LENT(board), TRADE))))
-        ;
+    return done(chezumobari_start(CHEZUMOBARI_LENT(board), TRADE)) &&
+           done(chezumobari_write(CHEZUMOBARI_LENT(board), TRADE, OWNER, owner)) &&
+           done(chezumobari_write(CHEZUMOBARI_LENT(board), TRADE, MORTGAGED, mortgaged)) &&
+           done(chezumobari_commit(CHEZUMOBARI_LENT(board), TRADE)) && settle(TRADE) == CHEZUMOBARI_COMMITTED;
 }
 
-/* A step answers 0, or one of 20 to 23. */
-static uint32_t step(size_t task)
+/* After a try that failed: whoever is writing or releasing is stepped to its end. Then it is tried again,
+ * in the same turn. */
+static void end_others(void)
 {
-    chezumobari_answer answer = chezumobari_step(CHEZUMOBARI_LENT(board), task);
-    if (answer.number < CHEZUMOBARI_ASLEEP)
-        done(answer);
-    return answer.number;
+    for (size_t task = 0; task < TASKS; task++)
+        if (places[task].phase >= CHEZUMOBARI_PHASE_WRITING)
+            settle(task);
 }
 
 int main(int count, char **words_given)
 {
-    char text[80];
-    int rest = 0, trading = 0, traded = 0;
+    char text[80], said[80] = "";
 
     if (count > 1 && strcmp(words_given[1], "--help") == 0) {
         puts("label: a label sleeps on its tile, a trade wakes it, and it speaks the new text. It takes no argument.");
@@ -78,29 +88,18 @@ int main(int count, char **words_given)
     }
 
     done(chezumobari_open(board.sizes, 1, CHEZUMOBARI_TABLES(board)));
-    begin_trade(1, 1); /* before the evening: Amina has the tile, mortgaged */
-    while (step(TRADE) != CHEZUMOBARI_COMMITTED)
-        ;
-
-    read_tile(text, sizeof text);
-    for (int turn = 0; turn < 60; turn++) { /* the scheduler: one step each in turn */
-        if (rest > 0) {                     /* woken: the trade goes first */
-            if (--rest == 0)
-                read_tile(text, sizeof text);
-        } else if (places[LABEL].phase != CHEZUMOBARI_PHASE_ASLEEP) {
-            uint32_t number = step(LABEL);
-            if (number == CHEZUMOBARI_ASLEEP)
-                printf("%s\n", text);
-            if (number == CHEZUMOBARI_WOKEN || number == CHEZUMOBARI_FAILED)
-                rest = 20;
-        }
-        if (turn == 10 || (trading && places[TRADE].phase == CHEZUMOBARI_PHASE_IDLE)) {
-            begin_trade(2, 0); /* Baraka gets it and pays the mortgage off */
-            trading = 1;
-        } else if (trading && step(TRADE) == CHEZUMOBARI_COMMITTED) {
-            trading = 0;
-            traded = 1;
-        }
+    while (!trade(1, 1)) /* before the evening: Amina has the tile, mortgaged */
+        end_others();
+    for (int round = 0; round < 10; round++) { /* the scheduler: a whole turn each */
+        if (round == 5)
+            while (!trade(2, 0)) /* Baraka gets it and pays the mortgage off; the first try wakes the label */
+                end_others();
+        if (places[LABEL].phase == CHEZUMOBARI_PHASE_ASLEEP)
+            continue;
+        while (!sleep_on_tile(text, sizeof text))
+            end_others();
+        if (strcmp(text, said) != 0)
+            puts(strcpy(said, text));
     }
-    return traded ? 0 : 1;
+    return 0;
 }

@@ -1,16 +1,17 @@
-/* chezumobari_turns.h: whole turns, labels that sleep, and the line, over chezumobari.h. Header only, C99.
+/* chezumobari_turns.h: whole turns and labels that sleep, over chezumobari.h. Header only, C99.
  *
  * A whole turn is a transaction from its start to its end with nobody's call between: start, reads and
  * writes, commit or wait, and all steps. If it fails, whoever it met is stepped to its end and the body
  * is run again, in the same turn. Where every other task is idle or asleep, a turn that commits is
  * through at try k + 1 or before, where k is the number of sleepers that own a record of its addresses.
  *
- * Tasks whose transactions span turns keep the line instead, further below.
+ * Tasks whose transactions span turns keep the line instead: chezumobari_line.h.
  */
 #ifndef CHEZUMOBARI_TURNS_H
 #define CHEZUMOBARI_TURNS_H
 
 #include "chezumobari.h"
+#include "chezumobari_line.h"
 
 #include <string.h>
 
@@ -37,15 +38,6 @@ typedef enum chezumobari_end {
 /* The body of a transaction. It may be run several times in a turn, and does nothing but compute. */
 typedef chezumobari_end chezumobari_body(chezumobari_turn *turn, void *with);
 
-/* Who has failed, the first one first, and who waits for them. All zeros is an empty line. */
-typedef struct chezumobari_line {
-    unsigned count;
-    unsigned char tasks[CHEZUMOBARI_MOST_TASKS];
-    uint32_t waiting;                       /* tasks as bits: who wants to begin */
-    uint32_t called;                        /* who waited when the line emptied: it begins next */
-    uint32_t ended[CHEZUMOBARI_MOST_TASKS]; /* the number of one that another's turn stepped to its end */
-} chezumobari_line;
-
 /* What a body calls: the value of a word, and a new value for it. After a refusal they do nothing. */
 static inline uint32_t chezumobari_get(chezumobari_turn *turn, size_t address)
 {
@@ -64,40 +56,6 @@ static inline void chezumobari_put(chezumobari_turn *turn, size_t address, uint3
         return;
     turn->refused = chezumobari_write(CHEZUMOBARI_LENT(*turn->board), turn->task, address, value).number;
     turn->calls++;
-}
-
-/* The line: joining and leaving. */
-static inline void chezumobari_join_line(chezumobari_line *line, size_t task)
-{
-    for (unsigned i = 0; i < line->count; i++)
-        if (line->tasks[i] == task)
-            return;
-    line->tasks[line->count++] = (unsigned char)task;
-}
-
-/* For a task that commits, calls wait or gives up. When the line empties, all who wait begin next. */
-static inline void chezumobari_leave_line(chezumobari_line *line, size_t task)
-{
-    unsigned left = 0;
-    for (unsigned i = 0; i < line->count; i++)
-        if (line->tasks[i] != task)
-            line->tasks[left++] = line->tasks[i];
-    line->count = left;
-    if (left == 0) {
-        line->called |= line->waiting;
-        line->waiting = 0;
-    }
-}
-
-/* Steps a task until it sleeps or is at its end: 20 to 23, or a refusal. */
-static inline uint32_t chezumobari_settle(const chezumobari_board *board, size_t task, unsigned *calls)
-{
-    uint32_t number;
-    do {
-        number = chezumobari_step(CHEZUMOBARI_LENT(*board), task).number;
-        ++*calls;
-    } while (number == CHEZUMOBARI_DONE);
-    return number;
 }
 
 /* Steps whoever has decided or is releasing to its end. */
@@ -242,62 +200,6 @@ static inline unsigned chezumobari_in_the_way(const chezumobari_board *board, co
                 break;
             }
     return owners;
-}
-
-/* The line, for tasks whose transactions span turns. While chezumobari_on_its_way says so, a task calls
- * chezumobari_line_step. Before each Start it asks chezumobari_may_begin. It calls chezumobari_leave_line
- * when it calls wait or gives up, and chezumobari_join_line when a Read or Write answers 9. All tasks of
- * a board keep the line: one that takes whole turns asks chezumobari_may_begin too, and hands the line
- * to chezumobari_whole_turn. */
-static inline int chezumobari_on_its_way(const chezumobari_line *line, const chezumobari_board *board, size_t task)
-{
-    uint32_t phase = board->places[task].phase;
-    return line->ended[task] != 0 || (phase > CHEZUMOBARI_PHASE_OPEN && phase != CHEZUMOBARI_PHASE_ASLEEP);
-}
-
-/* 1 if a task may begin now; 0 if it should ask again in its next turn. One that was woken is stepped to
- * its end here, so that it stands in nobody's way. */
-static inline int chezumobari_may_begin(chezumobari_line *line, const chezumobari_board *board, size_t task)
-{
-    uint32_t bit = (uint32_t)1 << task;
-    int may = line->count == 0 || (line->called & bit) != 0;
-    unsigned steps = 0;
-    if (board->places[task].phase == CHEZUMOBARI_PHASE_RELEASING_WOKEN)
-        chezumobari_settle(board, task, &steps);
-    if (!may && line->tasks[0] == task && line->called == 0) {
-        may = 1;
-        for (size_t other = 0; other < board->sizes.tasks; other++) {
-            uint32_t phase = board->places[other].phase;
-            if (other != task && phase > CHEZUMOBARI_PHASE_OPEN && phase != CHEZUMOBARI_PHASE_ASLEEP)
-                may = 0;
-        }
-    }
-    line->waiting = may ? line->waiting & ~bit : line->waiting | bit;
-    line->called &= ~bit;
-    line->ended[task] = 0;
-    return may;
-}
-
-/* One step. Whoever turns to failing joins the line, the one that came before the one that it met. */
-static inline uint32_t chezumobari_line_step(chezumobari_line *line, const chezumobari_board *board, size_t task)
-{
-    uint32_t before[CHEZUMOBARI_MOST_TASKS], number = line->ended[task];
-    if (number) { /* another's whole turn has made the steps already */
-        line->ended[task] = 0;
-        return number;
-    }
-    for (size_t other = 0; other < board->sizes.tasks; other++)
-        before[other] = board->places[other].phase;
-    number = chezumobari_step(CHEZUMOBARI_LENT(*board), task).number;
-    for (size_t i = 0; i < board->sizes.tasks; i++) {
-        size_t other = (task + i) % board->sizes.tasks;
-        if (before[other] == CHEZUMOBARI_PHASE_TAKING_TO_COMMIT &&
-            board->places[other].phase == CHEZUMOBARI_PHASE_RELEASING_FAILED)
-            chezumobari_join_line(line, other);
-    }
-    if (number == CHEZUMOBARI_COMMITTED)
-        chezumobari_leave_line(line, task);
-    return number;
 }
 
 #ifdef __cplusplus

@@ -1,29 +1,16 @@
-//! Tasks written as futures over one board: a scheduler that gives them turns, and the line for
-//! transactions that span turns.
+//! Tasks written as futures over one board, which they share.
 
-use crate::turns::{End, Ended, Label, Open, Stepped, Turn};
-use crate::{Board, Outcome, Phase, Progress, Refusal, Seen, Task, MOST_TASKS};
-use std::cell::{Cell, Ref, RefCell};
-use std::future::{poll_fn, Future};
-use std::pin::Pin;
-use std::task::{Context, Poll, Waker};
+mod line;
+mod scheduler;
+mod span;
 
-/// Ends the turn of the task that awaits it.
-pub async fn pass() {
-    let mut passed = false;
-    poll_fn(|_| match std::mem::replace(&mut passed, true) {
-        true => Poll::Ready(()),
-        false => Poll::Pending,
-    })
-    .await;
-}
+pub use scheduler::{pass, rest, Scheduler};
+pub use span::Spanning;
 
-/// Lets a number of rounds go by.
-pub async fn rest(rounds: u32) {
-    for _ in 0..rounds {
-        pass().await;
-    }
-}
+use crate::turns::{End, Label, Open, Stepped, Turn};
+use crate::{Board, Phase, Progress, Refusal, Seen, MOST_TASKS};
+use line::{Line, State};
+use std::cell::{Ref, RefCell};
 
 /// A board that tasks share, with the line of those whose commit has failed.
 ///
@@ -71,97 +58,6 @@ pub struct Shared {
     board: RefCell<Board>,
     state: RefCell<State>,
     steps_apart: bool,
-}
-
-type Watcher = Box<dyn FnMut(&Board, Stepped)>;
-
-struct State {
-    line: Line,
-    /// which turn of the scheduler it is, and in which one each task had its transaction
-    turn: u64,
-    took: [u64; MOST_TASKS],
-    /// how a transaction ended that another task stepped to its end
-    ended: [Option<Outcome>; MOST_TASKS],
-    watcher: Option<Watcher>,
-}
-
-/// Those whose commit has failed, the first one first. Tasks are bits of `waiting` and `called`.
-#[derive(Default)]
-struct Line {
-    tasks: Vec<usize>,
-    /// who waits for the line to let it begin
-    waiting: u32,
-    /// who waited when the line emptied: it begins at its next turn even if the line has filled again,
-    /// and before the first of the line
-    called: u32,
-}
-
-impl Line {
-    fn join(&mut self, task: usize) {
-        if !self.tasks.contains(&task) {
-            self.tasks.push(task);
-        }
-    }
-
-    fn leave(&mut self, task: usize) {
-        self.tasks.retain(|&other| other != task);
-        if self.tasks.is_empty() {
-            self.called |= std::mem::take(&mut self.waiting);
-        }
-    }
-
-    /// Whether a task may begin now. If not, it is noted as one that waits.
-    fn lets(&mut self, task: usize, board: &Board) -> bool {
-        let bit = 1 << task;
-        let lets = match self.tasks.first() {
-            None => true,
-            Some(_) if self.called & bit != 0 => true,
-            Some(&first) => first == task && self.called == 0 && road_is_clear(board, task),
-        };
-        if !lets {
-            self.waiting |= bit;
-        }
-        lets
-    }
-}
-
-/// Whether no other task is on its way to commit, to sleep or to its end.
-fn road_is_clear(board: &Board, task: usize) -> bool {
-    use Phase::*;
-    (0..board.sizes().tasks).all(|other| other == task || matches!(board.phase(other), Some(Idle | Open | Asleep)))
-}
-
-impl State {
-    /// Another task's whole turn has stepped a task to its end.
-    fn ended_by_another(&mut self, task: usize, outcome: Outcome) {
-        self.ended[task] = Some(outcome);
-        if outcome == Outcome::Failed {
-            self.line.join(task);
-        }
-    }
-
-    /// Keeps the line by what a step did, and tells the watcher. The phases are those before it.
-    fn stepped(&mut self, board: &Board, before: &[Option<Phase>], step: Stepped) {
-        let failed = |task: usize| {
-            before.get(task) == Some(&Some(Phase::TakingToCommit)) && board.phase(task) == Some(Phase::ReleasingFailed)
-        };
-        // the one that came stands before the one that it met
-        for task in std::iter::once(step.task).chain(0..board.sizes().tasks) {
-            if failed(task) {
-                self.line.join(task);
-            }
-        }
-        if step.progress == Progress::Ended(Outcome::Committed) {
-            self.line.leave(step.task);
-        }
-        if let Some(watcher) = &mut self.watcher {
-            watcher(board, step);
-        }
-    }
-}
-
-fn phases(board: &Board) -> Vec<Option<Phase>> {
-    (0..board.sizes().tasks).map(|task| board.phase(task)).collect()
 }
 
 impl Shared {
@@ -288,64 +184,6 @@ impl Shared {
             self.woken(label.task()).await;
         }
     }
-
-    /// A transaction that spans turns: its body may await. It is run until it commits, sleeps or
-    /// gives up; after a failure the task stands in line.
-    ///
-    /// From when it begins as the first in line, with k the sleepers in its way and the tasks that
-    /// are neither idle nor asleep, it is through at try k + 1 or before. That is measured, not proved.
-    pub async fn span<T>(
-        &self,
-        task: usize,
-        mut body: impl AsyncFnMut(&Spanning<'_>) -> Result<End<T>, Refusal>,
-    ) -> Result<Turn<T>, Refusal> {
-        let spanning = Spanning { shared: self, task, calls: Cell::new(0) };
-        let mut tries = 0;
-        loop {
-            tries += 1;
-            self.may_begin(task).await?;
-            spanning.call(|mut task| task.start())?;
-            let (value, ended) = match body(&spanning).await {
-                Err(Refusal::Overtaken) => {
-                    self.state.borrow_mut().line.join(task);
-                    continue;
-                }
-                Err(refusal) => return Err(refusal),
-                Ok(End::Abort(value)) => (value, Some(Ended::Aborted)),
-                Ok(End::Commit(value)) => {
-                    spanning.call(|mut task| task.commit())?;
-                    (value, spanning.arrive().await?)
-                }
-                Ok(End::Sleep(value)) => {
-                    self.state.borrow_mut().line.leave(task);
-                    spanning.call(|mut task| task.wait())?;
-                    (value, spanning.arrive().await?)
-                }
-            };
-            if let Some(ended) = ended {
-                return Ok(Turn { value, ended, tries, calls: spanning.calls.get() });
-            }
-        }
-    }
-
-    fn step(&self, task: usize) -> Result<Progress, Refusal> {
-        let (mut board, mut state) = (self.board.borrow_mut(), self.state.borrow_mut());
-        let before = phases(&board);
-        board.watched_step(task, &mut |board: &Board, step: Stepped| state.stepped(board, &before, step))
-    }
-
-    /// Has a task stand nowhere: not open, not half way, not in line. It may sleep.
-    fn let_go(&self, task: usize) {
-        let (mut board, mut state) = (self.board.borrow_mut(), self.state.borrow_mut());
-        // neither is refused in these phases
-        let _ = match board.phase(task) {
-            None => return,
-            Some(Phase::Idle | Phase::Asleep) => Ok(()),
-            Some(Phase::Open) => board.task(task).abort(),
-            Some(_) => board.task(task).settle().map(drop),
-        };
-        state.line.leave(task);
-    }
 }
 
 /// While this is there a task waits for the line to let it begin.
@@ -360,155 +198,5 @@ impl Drop for Waiting<'_> {
         let line = &mut self.shared.state.borrow_mut().line;
         line.waiting &= !bit;
         line.called &= !bit;
-    }
-}
-
-/// An open transaction that spans turns. Between its calls the body may await.
-///
-/// If the body ends early, or the future is dropped, the task is not left open.
-pub struct Spanning<'shared> {
-    shared: &'shared Shared,
-    task: usize,
-    calls: Cell<usize>,
-}
-
-impl Spanning<'_> {
-    /// Reads a word: the transaction's own value if it wrote one, else what it saw first.
-    pub fn read(&self, address: usize) -> Result<u32, Refusal> {
-        self.now(|open| open.read(address))
-    }
-
-    /// Writes a word. Others see it once the transaction has committed.
-    pub fn write(&self, address: usize, value: u32) -> Result<(), Refusal> {
-        self.now(|open| open.write(address, value))
-    }
-
-    /// Several calls at once, with the same code as a body of [`Shared::turn`].
-    pub fn now<T>(&self, act: impl FnOnce(&mut Open<'_>) -> Result<T, Refusal>) -> Result<T, Refusal> {
-        let mut board = self.shared.board.borrow_mut();
-        let mut open = Open::lend(&mut board, self.task);
-        let result = act(&mut open);
-        self.calls.set(self.calls.get() + open.calls());
-        result
-    }
-
-    fn call(&self, act: impl FnOnce(Task<'_>) -> Result<(), Refusal>) -> Result<(), Refusal> {
-        self.calls.set(self.calls.get() + 1);
-        act(self.shared.board.borrow_mut().task(self.task))
-    }
-
-    /// Steps the task until it is asleep or at its end. Nothing if it has failed.
-    async fn arrive(&self) -> Result<Option<Ended>, Refusal> {
-        loop {
-            match self.step()? {
-                Progress::Asleep => return Ok(Some(Ended::Asleep)),
-                Progress::Ended(Outcome::Committed) => return Ok(Some(Ended::Committed)),
-                // a task that was woken before it took another turn has slept all the same
-                Progress::Ended(Outcome::Woken) => return Ok(Some(Ended::Asleep)),
-                Progress::Ended(Outcome::Failed) => return Ok(None),
-                Progress::Going if self.shared.steps_apart => pass().await,
-                Progress::Going => {}
-            }
-        }
-    }
-
-    /// One step, unless another task's whole turn has made the steps already.
-    fn step(&self) -> Result<Progress, Refusal> {
-        if let Some(outcome) = self.shared.state.borrow_mut().ended[self.task].take() {
-            return Ok(Progress::Ended(outcome));
-        }
-        self.calls.set(self.calls.get() + 1);
-        self.shared.step(self.task)
-    }
-}
-
-impl Drop for Spanning<'_> {
-    fn drop(&mut self) {
-        self.shared.let_go(self.task);
-    }
-}
-
-/// A future that is a task of the scheduler.
-type Work<'shared> = Pin<Box<dyn Future<Output = ()> + 'shared>>;
-
-/// Gives turns to tasks that are futures, in the order in which they were added, round after round.
-/// A task that sleeps is passed over: it needs no turn until it is woken.
-///
-/// Audio has its turn between two turns: the program calls [`Scheduler::turn`] again and again and
-/// does in between what cannot wait. The example is at [`Shared`].
-pub struct Scheduler<'shared> {
-    shared: &'shared Shared,
-    works: Vec<(Option<usize>, Option<Work<'shared>>)>,
-    next: usize,
-    rounds: u64,
-}
-
-impl<'shared> Scheduler<'shared> {
-    pub fn new(shared: &'shared Shared) -> Scheduler<'shared> {
-        Scheduler { shared, works: Vec::new(), next: 0, rounds: 0 }
-    }
-
-    /// Adds a future whose transactions are those of a task of the board. Answers its number here.
-    pub fn add(&mut self, task: usize, work: impl Future<Output = ()> + 'shared) -> usize {
-        self.works.push((Some(task), Some(Box::pin(work))));
-        self.works.len() - 1
-    }
-
-    /// Adds a future that is no task of the board.
-    pub fn add_other(&mut self, work: impl Future<Output = ()> + 'shared) -> usize {
-        self.works.push((None, Some(Box::pin(work))));
-        self.works.len() - 1
-    }
-
-    /// Whether a future has ended.
-    pub fn has_ended(&self, number: usize) -> bool {
-        self.works.get(number).is_none_or(|(_, work)| work.is_none())
-    }
-
-    /// The rounds that have begun. In each one every task that needed a turn had one.
-    pub fn rounds(&self) -> u64 {
-        self.rounds
-    }
-
-    /// Gives the next one that needs it its turn, and answers its number. Nothing if nobody needs one:
-    /// all have ended or sleep.
-    pub fn turn(&mut self) -> Option<usize> {
-        let number = self.choose()?;
-        self.give(number);
-        Some(number)
-    }
-
-    /// The next one that needs a turn, for a program that does something between this and
-    /// [`Scheduler::give`].
-    pub fn choose(&mut self) -> Option<usize> {
-        for _ in 0..self.works.len() {
-            let number = self.next;
-            self.next = (number + 1) % self.works.len();
-            self.rounds += u64::from(number == 0);
-            if self.needs_a_turn(number) {
-                return Some(number);
-            }
-        }
-        None
-    }
-
-    /// Gives a turn to one of the futures, in whatever order the program likes.
-    pub fn give(&mut self, number: usize) {
-        let Some((_, work)) = self.works.get_mut(number) else { return };
-        let Some(future) = work else { return };
-        self.shared.next_turn();
-        if future.as_mut().poll(&mut Context::from_waker(Waker::noop())).is_ready() {
-            *work = None;
-        }
-    }
-
-    fn needs_a_turn(&self, number: usize) -> bool {
-        let (task, work) = &self.works[number];
-        let phase = task.and_then(|task| self.shared.board().phase(task));
-        if let (None, Some(task), Some(Phase::ReleasingWoken)) = (work, task, phase) {
-            // its future ended while it slept, and nobody else would step it
-            self.shared.let_go(*task);
-        }
-        work.is_some() && phase != Some(Phase::Asleep)
     }
 }

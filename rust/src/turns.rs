@@ -1,6 +1,14 @@
 //! Whole turns: a transaction from its start to its end, with nobody's call between.
 
-use crate::{Board, Outcome, Phase, Progress, Refusal, FIRST_OWNER};
+mod calm;
+mod label;
+mod open;
+
+pub use calm::Longest;
+pub use label::Label;
+pub use open::Open;
+
+use crate::{Board, Outcome, Phase, Progress, Refusal};
 
 /// How a body wants its transaction to end, and what it answers.
 #[derive(Clone, Copy, Debug, PartialEq, Eq)]
@@ -36,13 +44,6 @@ pub struct Turn<T> {
     pub calls: usize,
 }
 
-/// The most that a turn can take.
-#[derive(Clone, Copy, Debug, PartialEq, Eq)]
-pub struct Longest {
-    pub tries: usize,
-    pub calls: usize,
-}
-
 /// A step that was made in a turn, for whoever watches.
 #[derive(Clone, Copy, Debug, PartialEq, Eq)]
 pub struct Stepped {
@@ -52,69 +53,6 @@ pub struct Stepped {
     pub before: Phase,
     /// What the step came to.
     pub progress: Progress,
-}
-
-/// An open transaction, lent to a body.
-///
-/// However the body ends, by an answer, by `?` or by a panic, the task is not left open.
-#[derive(Debug)]
-pub struct Open<'board> {
-    board: &'board mut Board,
-    task: usize,
-    calls: usize,
-    stays: bool,
-}
-
-impl<'board> Open<'board> {
-    fn start(board: &'board mut Board, task: usize) -> Result<Open<'board>, Refusal> {
-        board.task(task).start()?;
-        Ok(Open { board, task, calls: 1, stays: false })
-    }
-
-    /// An open transaction that goes on when this is dropped.
-    pub(crate) fn lend(board: &'board mut Board, task: usize) -> Open<'board> {
-        Open { board, task, calls: 0, stays: true }
-    }
-
-    pub(crate) fn calls(&self) -> usize {
-        self.calls
-    }
-
-    /// The task whose transaction this is.
-    pub fn task(&self) -> usize {
-        self.task
-    }
-
-    /// Reads a word: the transaction's own value if it wrote one, else what it saw first.
-    pub fn read(&mut self, address: usize) -> Result<u32, Refusal> {
-        self.calls += 1;
-        self.board.task(self.task).read(address)
-    }
-
-    /// Writes a word. Others see it once the transaction has committed.
-    pub fn write(&mut self, address: usize, value: u32) -> Result<(), Refusal> {
-        self.calls += 1;
-        self.board.task(self.task).write(address, value)
-    }
-
-    /// Asks for what the body wishes. The body's answer, and the end if there are no steps to it.
-    fn close<T>(self, wish: End<T>) -> Result<(T, Option<Ended>), Refusal> {
-        let mut task = self.board.task(self.task);
-        match wish {
-            End::Commit(value) => task.commit().map(|()| (value, None)),
-            End::Sleep(value) => task.wait().map(|()| (value, None)),
-            End::Abort(value) => task.abort().map(|()| (value, Some(Ended::Aborted))),
-        }
-    }
-}
-
-impl Drop for Open<'_> {
-    fn drop(&mut self) {
-        if !self.stays && self.board.phase(self.task) == Some(Phase::Open) {
-            // an open transaction may always be given up
-            let _ = self.board.task(self.task).abort();
-        }
-    }
 }
 
 /// Whether a task is stepped to its end by whoever meets it: it has decided or is releasing.
@@ -193,7 +131,7 @@ impl Board {
     ) -> Result<Option<(T, Ended)>, Refusal> {
         let mut open = Open::start(self, task)?;
         let wish = body(&mut open);
-        *calls += open.calls;
+        *calls += open.calls();
         let value = match wish {
             Err(Refusal::Overtaken) => return Ok(None),
             Err(refusal) => return Err(refusal),
@@ -251,130 +189,5 @@ impl Board {
                 return Ok((progress, steps));
             }
         }
-    }
-
-    /// Whether every task is idle or asleep, as whole turns leave a board.
-    pub fn is_calm(&self) -> bool {
-        (0..self.sizes().tasks).all(|task| matches!(self.phase(task), Some(Phase::Idle | Phase::Asleep)))
-    }
-
-    /// Makes a board calm: who is on its way is stepped to its end, and open transactions are given
-    /// up. Sleepers sleep on. For a saved game whose program was in the middle of something.
-    pub fn calm_down(&mut self) -> Result<(), Refusal> {
-        for task in 0..self.sizes().tasks {
-            match self.phase(task) {
-                Some(Phase::Idle | Phase::Asleep) => {}
-                Some(Phase::Open) => self.task(task).abort()?,
-                _ => {
-                    let _ended = self.task(task).settle()?;
-                }
-            }
-        }
-        // one that was on its way may have failed or woken one before it
-        match self.is_calm() {
-            true => Ok(()),
-            false => self.calm_down(),
-        }
-    }
-
-    /// The tasks that own the record of one of these addresses. Between whole turns they are the
-    /// sleepers in the way of a turn that uses these addresses.
-    pub fn owners(&self, addresses: &[usize]) -> Vec<usize> {
-        let records = &self.tables().records;
-        let owns = |task: &usize| {
-            addresses
-                .iter()
-                .any(|address| records.get(address % records.len().max(1)) == Some(&(FIRST_OWNER + *task as u32)))
-        };
-        (0..self.sizes().tasks).filter(owns).collect()
-    }
-
-    /// The most tries and calls that a turn can take on this board, if it reads and writes each of
-    /// these addresses once at most and every other task is idle or asleep.
-    ///
-    /// A try with n addresses is 5n + 5 calls if it commits, and at most 4n + 3 if it fails. A sleeper
-    /// with m addresses that it meets is m + 1 more.
-    pub fn longest_turn(&self, addresses: &[usize]) -> Longest {
-        let mut distinct = addresses.to_vec();
-        distinct.sort_unstable();
-        distinct.dedup();
-        let n = distinct.len();
-        let met = self.owners(&distinct);
-        let rising = |&task: &usize| self.tables().places[task][0] as usize + 1;
-        let calls = 5 * n + 5 + met.len() * (4 * n + 3) + met.iter().map(rising).sum::<usize>();
-        Longest { tries: met.len() + 1, calls }
-    }
-}
-
-/// A label: it reads, sleeps on what it read, and has something to say if that is news.
-///
-/// ```
-/// use chezumobari::{Board, End, Label, Refusal, Sizes};
-/// let mut board = Board::open(Sizes { words: 2, records: 2, tasks: 2 }, 1)?;
-/// let (owner, houses) = (0, 1);
-/// let mut label = Label::new(0, |open| Ok(format!("Owner {}, houses {}.", open.read(owner)?, open.read(houses)?)));
-/// let mut spoken = Vec::new();
-///
-/// for round in 0..5 {
-///     if round == 2 {
-///         let trade = board.turn(1, |open| Ok(End::Commit(open.write(owner, 3)?)))?;
-///         assert_eq!(trade.tries, 2);
-///     }
-///     if let Some(text) = label.turn(&mut board)? {
-///         spoken.push(format!("{round}: {text}"));
-///     }
-/// }
-/// assert_eq!(spoken, ["0: Owner 0, houses 0.", "2: Owner 3, houses 0."]);
-/// # Ok::<(), Refusal>(())
-/// ```
-#[derive(Debug)]
-pub struct Label<T, R> {
-    task: usize,
-    read: R,
-    said: Option<T>,
-}
-
-impl<T: PartialEq, R: FnMut(&mut Open<'_>) -> Result<T, Refusal>> Label<T, R> {
-    /// A label that is a task of the board. `read` reads the words and makes the text of them.
-    pub fn new(task: usize, read: R) -> Label<T, R> {
-        Label { task, read, said: None }
-    }
-
-    /// The same label, as if it had said this already. For a saved game, or a board that is known.
-    pub fn having_said(self, text: T) -> Label<T, R> {
-        Label { said: Some(text), ..self }
-    }
-
-    /// What it said last.
-    pub fn said(&self) -> Option<&T> {
-        self.said.as_ref()
-    }
-
-    /// The label's turn: nothing if it sleeps. Otherwise it reads, sleeps, and answers the text if
-    /// that differs from what it said last. The text is the board, and stays so until the label is
-    /// woken. Then it takes its next turn.
-    pub fn turn(&mut self, board: &mut Board) -> Result<Option<&T>, Refusal> {
-        if board.phase(self.task) == Some(Phase::Asleep) {
-            return Ok(None);
-        }
-        let turn = board.turn(self.task, |open| Ok(End::Sleep((self.read)(open)?)))?;
-        Ok(self.news(turn.value))
-    }
-
-    /// One try for its text, and what of it is news.
-    pub(crate) fn read(&mut self, open: &mut Open<'_>) -> Result<T, Refusal> {
-        (self.read)(open)
-    }
-
-    pub(crate) fn task(&self) -> usize {
-        self.task
-    }
-
-    pub(crate) fn news(&mut self, text: T) -> Option<&T> {
-        if self.said.as_ref() == Some(&text) {
-            return None;
-        }
-        self.said = Some(text);
-        self.said.as_ref()
     }
 }
