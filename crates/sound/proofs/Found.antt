@@ -15,32 +15,29 @@ use Rattle.parts.specs.Parts.{agree, ownsFrom}
 use Rattle.sound.specs.Walk.{Fit, Room}
 use Rattle.memory.proofs.Tools.{and-make}
 use Rattle.parts.proofs.Tests.{and-false, below-more, below-all, below-fault}
-use Rattle.sound.proofs.Pairs.{Noted, noted-none, noted-more, fresh, latest-on, marks-below, apart-one, apart-never, apart-all, agree-of}
+use Rattle.sound.proofs.Pairs.{Noted, noted-none, noted-more, fresh, latest-on, cells-below, apart-one, apart-never, apart-all, agree-of}
 use Rattle.sound.proofs.Owners.{Vouched, vouched-none, vouched-next, count-most}
 
 -- The tables with a cell for each record. A table more, as one of sleepers, is a field more here, in `Kept` and in `Wide`.
 pub record Marks : Type 0 where
-  pub last : List ℕ
-  pub latest : List ℕ
+  pub met : List ℕ
   pub owned : List Bool
 
 -- their lengths are those lent
 pub record Kept (lent now : Marks) : Type 0 where
-  pub last : length (now .last) ≡ length (lent .last)
-  pub latest : length (now .latest) ≡ length (lent .latest)
+  pub met : length (now .met) ≡ length (lent .met)
   pub owned : length (now .owned) ≡ length (lent .owned)
 
 -- a cell for each entry of a task, and one for each record
 pub record Wide (z : Sizes) (told : List ℕ) (now : Marks) : Type 0 where
   pub addresses : length told ≡ 64
-  pub last : z .records ≤ length (now .last)
-  pub latest : z .records ≤ length (now .latest)
+  pub met : z .records ≤ length (now .met)
 
 -- Before task t. What later requests ask of every task passed goes here.
 pub record TasksFound (z : Sizes) (m : Memory) (lent : Marks) (told : List ℕ) (now : Marks) (t : ℕ) : Type 0 where
   pub within : t ≤ z .tasks
   pub right : allBelow t (λ u. taskOk z m u) ≡ true
-  pub marks : (r : ℕ) → r < z .records → getD (now .last) r 0 < t + 1
+  pub marks : (r : ℕ) → r < z .records → getD (now .met) r 0 < 64 * (t + 1)
   pub owned : Vouched z m t 0 (now .owned)
   pub wide : Wide z told now
   pub kept : Kept lent now
@@ -50,7 +47,7 @@ pub record EntriesFound (z : Sizes) (m : Memory) (t n : ℕ) (lent : Marks) (tol
   pub within : i ≤ n
   pub most : n ≤ 64
   pub right : entriesOk z (entry z m t) i ≡ true
-  pub noted : Noted (z .records) (entry z m t) (t + 1) told (now .last) (now .latest) i
+  pub noted : Noted (z .records) (entry z m t) (64 * (t + 1)) told (now .met) i
   pub owned : Vouched z m t i (now .owned)
   pub wide : Wide z told now
   pub kept : Kept lent now
@@ -94,14 +91,14 @@ pub record Ended (z : Sizes) (m : Memory) (lent now : Marks) (t : ℕ) : Type 0 
   pub how : Passed z m t (now .owned) ⊎ Fault z m t
 
 pub kept-none : {a : Marks} → Kept a a
-kept-none = record { last = refl; latest = refl; owned = refl }
+kept-none = record { met = refl; owned = refl }
 
 pub kept-then : {a b c : Marks} → Kept a b → Kept b c → Kept a c
-kept-then h k = record { last = k .last ∙ h .last; latest = k .latest ∙ h .latest; owned = k .owned ∙ h .owned }
+kept-then h k = record { met = k .met ∙ h .met; owned = k .owned ∙ h .owned }
 
 -- the same tables by other names
-pub kept-as : {a b c : Marks} → c .last ≡ b .last → c .latest ≡ b .latest → c .owned ≡ b .owned → Kept a b → Kept a c
-kept-as p q r k = record { last = ap length p ∙ k .last; latest = ap length q ∙ k .latest; owned = ap length r ∙ k .owned }
+pub kept-as : {a b c : Marks} → c .met ≡ b .met → c .owned ≡ b .owned → Kept a b → Kept a c
+kept-as p q k = record { met = ap length p ∙ k .met; owned = ap length q ∙ k .owned }
 
 -- the run of task t as the walk has it, a part of the entry table
 abbrev pub run : Memory → ℕ → List (List ℕ)
@@ -112,7 +109,7 @@ abbrev pub Apart : Sizes → Memory → ℕ → ℕ → Type 0
 Apart z m t i = allBelow i (λ k. apart (z .records) (entry z m t k) (entry z m t i)) ≡ true
 
 module _ {z : Sizes} {m : Memory} where
-  pub tasks-none : {lent : Marks} {told : List ℕ} → Room z (lent .last) (lent .latest) (lent .owned) → length told ≡ 64 → TasksFound z m lent told lent 0
+  pub tasks-none : {lent : Marks} {told : List ℕ} → Room z (lent .met) (lent .owned) → length told ≡ 64 → TasksFound z m lent told lent 0
   unfolding allBelow
   tasks-none r h =
       record {
@@ -120,7 +117,7 @@ module _ {z : Sizes} {m : Memory} where
         right = refl;
         marks = λ x l. omega (arith, r .unmarked x l);
         owned = vouched-none z m (r .owned-size) (r .unowned);
-        wide = record { addresses = h; last = r .last-size; latest = r .latest-size };
+        wide = record { addresses = h; met = r .met-size };
         kept = kept-none;
       }
 
@@ -184,7 +181,7 @@ module _ {z : Sizes} {m : Memory} {t n from : ℕ} (task : Task z m t n from) wh
         record {
           within = omega arith;
           right = below-more _ t (f .right) (and-make (task .row) (rw e at (g .right)));
-          marks = marks-below (g .noted);
+          marks = λ r l. omega (arith, cells-below (g .noted) (omega (arith, g .within, g .most)) r l);
           owned = vouched-next z m (rw e at (g .owned));
           wide = g .wide;
           kept = kept-then (f .kept) (g .kept);
@@ -203,14 +200,17 @@ module _ {z : Sizes} {m : Memory} {t n from : ℕ} {lent : Marks} {told : List �
   pub address-fault : (j : ℕ) → j < i → getD told j 0 ≡ entryOf (getD (run m t) i []) .address → Fault z m t
   address-fault j k h = pair-wrong j k (apart-never (z .records) _ _ (sym (e .found .noted .told-at j k) ∙ h ∙ same-address))
 
-  -- the record has not the task's mark: no entry before is on it
-  pub apart-fresh : (getD (now .last) r 0 ≡ t + 1 → ⊥) → Apart z m t i
+  pub cell-below : getD (now .met) r 0 < 64 * (t + 1) + 64
+  cell-below = cells-below (e .found .noted) (omega (arith, in-run)) r (e .known)
+
+  -- the record's cell is below the task's base: no entry before is on it
+  pub apart-fresh : getD (now .met) r 0 < 64 * (t + 1) → Apart z m t i
   apart-fresh = fresh (e .found .noted) (e .on) (e .known)
 
-  -- the record has the mark: the latest entry on it
-  module _ (q : getD (now .last) r 0 ≡ t + 1) where
+  -- it is not: the latest entry on it
+  module _ (q : 64 * (t + 1) ≤ getD (now .met) r 0) where
     abbrev before : ℕ
-    before = getD (now .latest) r 0
+    before = getD (now .met) r 0 - 64 * (t + 1)
 
     pub latest-at : (before < i) × (entry z m t before .address % z .records ≡ entry z m t i .address % z .records)
     latest-at = latest-on (e .found .noted) (e .on) (e .known) q
@@ -230,7 +230,7 @@ module _ {z : Sizes} {m : Memory} {t n from : ℕ} {lent : Marks} {told : List �
         (λ k p a. d k p (e .found .noted .told-at k p ∙ a ∙ sym same-address))
 
   pub entries-more : {owned : List Bool} → Apart z m t i → Vouched z m t (i + 1) owned → length owned ≡ length (now .owned)
-      → EntriesFound z m t n lent (set told i (entryOf (getD (run m t) i []) .address)) (record { last = set (now .last) r (t + 1); latest = set (now .latest) r i; owned = owned }) (i + 1)
+      → EntriesFound z m t n lent (set told i (entryOf (getD (run m t) i []) .address)) (record { met = set (now .met) r (64 * (t + 1) + i); owned = owned }) (i + 1)
   unfolding entriesOk
   entries-more h v s =
       let f = e .found in
@@ -239,13 +239,12 @@ module _ {z : Sizes} {m : Memory} {t n from : ℕ} {lent : Marks} {told : List �
         within = omega (arith, e .more);
         most = f .most;
         right = below-more _ i (f .right) (and-make (e .right) h);
-        noted = noted-more (f .noted) (e .on) same-address (omega (arith, in-run, w .addresses)) (omega (arith, e .known, w .last)) (omega (arith, e .known, w .latest));
+        noted = noted-more (f .noted) (e .on) same-address (omega (arith, in-run, w .addresses)) (omega (arith, e .known, w .met));
         owned = v;
         wide =
             record {
               addresses = length-set told i _ ∙ w .addresses;
-              last = omega (arith, length-set (now .last) r (t + 1), w .last);
-              latest = omega (arith, length-set (now .latest) r i, w .latest);
+              met = omega (arith, length-set (now .met) r (64 * (t + 1) + i), w .met);
             };
-        kept = kept-then (f .kept) record { last = length-set (now .last) r (t + 1); latest = length-set (now .latest) r i; owned = s };
+        kept = kept-then (f .kept) record { met = length-set (now .met) r (64 * (t + 1) + i); owned = s };
       }

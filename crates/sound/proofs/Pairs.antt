@@ -1,5 +1,5 @@
 -- The entries of a task against those before them: what the walk notes, and the faults that it meets.
-use Prim.Native.Nat.{ℕ, _+_, _%_, _≤_, _<_}
+use Prim.Native.Nat.{ℕ, _+_, _-_, _%_, _≤_, _<_}
 use native.Mathlib.Omega.{arith}
 use mathlib.Core.Path.{_≡_, refl, sym, ap, _∙_}
 use mathlib.Core.Logic.{⊎-elim, _⊎_, inl, inr}
@@ -80,64 +80,62 @@ pub address-below : (z : Sizes) (e : Entry) → entryOk z e ≡ true → e .addr
 unfolding entryOk
 address-below z e h = ltb-true (e .address) (z .words) (search (and-0, and-1))
 
--- What a record's two cells say of the first i entries: none is on it, and its mark is an earlier task's; or the latest one on it.
-abbrev Met : ℕ → (ℕ → Entry) → ℕ → ℕ → ℕ → ℕ → ℕ → Type 0
-Met n e mark i r l f = ((l < mark) × ((k : ℕ) → k < i → e k .address % n ≡ r → ⊥)) ⊎ ((l ≡ mark) × (f < i) × (e f .address % n ≡ r))
+-- What a record's cell says of the first i entries: none is on it, and the cell is below the task's base; or the latest one on it.
+abbrev Met : ℕ → (ℕ → Entry) → ℕ → ℕ → ℕ → ℕ → Type 0
+Met n e base i r v = ((v < base) × ((k : ℕ) → k < i → e k .address % n ≡ r → ⊥)) ⊎ ((base ≤ v) × (v < base + i) × (e (v - base) .address % n ≡ r))
 
 -- What is noted of the first i entries: the address of each, and at each record the latest entry on it.
-pub record Noted (n : ℕ) (e : ℕ → Entry) (mark : ℕ) (told last latest : List ℕ) (i : ℕ) : Type 0 where
+pub record Noted (n : ℕ) (e : ℕ → Entry) (base : ℕ) (told cells : List ℕ) (i : ℕ) : Type 0 where
   pub told-at : (k : ℕ) → k < i → getD told k 0 ≡ e k .address
-  pub met : (r : ℕ) → r < n → Met n e mark i r (getD last r 0) (getD latest r 0)
+  pub met : (r : ℕ) → r < n → Met n e base i r (getD cells r 0)
 
-module _ {n : ℕ} {e : ℕ → Entry} {mark : ℕ} {told last latest : List ℕ} where
-  pub noted-none : ((r : ℕ) → r < n → getD last r 0 < mark) → Noted n e mark told last latest 0
+module _ {n : ℕ} {e : ℕ → Entry} {base : ℕ} {told cells : List ℕ} where
+  pub noted-none : ((r : ℕ) → r < n → getD cells r 0 < base) → Noted n e base told cells 0
   noted-none f =
       record {
         told-at = λ k l. absurd (omega arith);
         met = λ r l. inl (f r l, λ k m p. absurd (omega arith));
       }
 
-  module _ {i r : ℕ} (h : Noted n e mark told last latest i) (q : r ≡ e i .address % n) where
-    met-more : r < length last → r < length latest → (x : ℕ) → x < n → Met n e mark (i + 1) x (getD (set last r mark) x 0) (getD (set latest r i) x 0)
-    met-more l l′ x hx = go (after-set last r x mark 0 l) (after-set latest r x i 0 l′)
+  module _ {i r : ℕ} (h : Noted n e base told cells i) (q : r ≡ e i .address % n) where
+    met-more : r < length cells → (x : ℕ) → x < n → Met n e base (i + 1) x (getD (set cells r (base + i)) x 0)
+    met-more l x hx = go (after-set cells r x (base + i) 0 l)
       where
-        old : (x ≡ r → ⊥) → Met n e mark i x (getD last x 0) (getD latest x 0) → Met n e mark (i + 1) x (getD last x 0) (getD latest x 0)
+        old : (x ≡ r → ⊥) → Met n e base i x (getD cells x 0) → Met n e base (i + 1) x (getD cells x 0)
         old d (inl w) = inl (w .0, λ k m p. ⊎-elim (λ (u : k ≡ i). d (sym p ∙ ap (λ (y : ℕ). e y .address % n) u ∙ sym q)) (λ (u : k ≡ i → ⊥). w .1 k (omega arith) p) (same? k i))
         old d (inr w) = inr (w .0, omega (arith, w .1), w .2)
 
-        go : ((x ≡ r) × (getD (set last r mark) x 0 ≡ mark)) ⊎ ((x ≡ r → ⊥) × (getD (set last r mark) x 0 ≡ getD last x 0))
-            → ((x ≡ r) × (getD (set latest r i) x 0 ≡ i)) ⊎ ((x ≡ r → ⊥) × (getD (set latest r i) x 0 ≡ getD latest x 0))
-            → Met n e mark (i + 1) x (getD (set last r mark) x 0) (getD (set latest r i) x 0)
-        go (inl a) (inl b) = inr (a .1, omega (arith, b .1), ap (λ (y : ℕ). e y .address % n) (b .1) ∙ sym q ∙ sym (a .0))
-        go (inl a) (inr b) = absurd (b .0 (a .0))
-        go (inr a) (inl b) = absurd (a .0 (b .0))
-        go (inr a) (inr b) = rw (a .1, b .1) (old (a .0) (h .met x hx))
+        go : ((x ≡ r) × (getD (set cells r (base + i)) x 0 ≡ base + i)) ⊎ ((x ≡ r → ⊥) × (getD (set cells r (base + i)) x 0 ≡ getD cells x 0))
+            → Met n e base (i + 1) x (getD (set cells r (base + i)) x 0)
+        go (inl a) =
+            let u : getD (set cells r (base + i)) x 0 - base ≡ i = omega (arith, a .1) in
+            inr (omega (arith, a .1), omega (arith, a .1), ap (λ (y : ℕ). e y .address % n) u ∙ sym q ∙ sym (a .0))
+        go (inr a) = rw (a .1) (old (a .0) (h .met x hx))
 
-    pub noted-more : {a : ℕ} → a ≡ e i .address → i < length told → r < length last → r < length latest
-        → Noted n e mark (set told i a) (set last r mark) (set latest r i) (i + 1)
-    noted-more {a} p k l l′ =
+    pub noted-more : {a : ℕ} → a ≡ e i .address → i < length told → r < length cells → Noted n e base (set told i a) (set cells r (base + i)) (i + 1)
+    noted-more {a} p k l =
         record {
           told-at = λ k′ d.
               ⊎-elim
               (λ w. w .1 ∙ p ∙ ap (λ (x : ℕ). e x .address) (sym (w .0)))
               (λ w. w .1 ∙ h .told-at k′ (omega arith))
               (after-set told i k′ a 0 k);
-          met = met-more l l′;
+          met = met-more l;
         }
 
     module _ (l : r < n) where
-      -- an entry on a record that has not the mark is apart from all before it
-      pub fresh : (getD last r 0 ≡ mark → ⊥) → allBelow i (λ k. apart n (e k) (e i)) ≡ true
+      -- an entry on a record whose cell is below the base is apart from all before it
+      pub fresh : getD cells r 0 < base → allBelow i (λ k. apart n (e k) (e i)) ≡ true
       fresh d =
           ⊎-elim
           (λ w. below-make i _ (λ k m. apart-two n (e k) (e i) (λ p. w .1 k m (p ∙ sym q))))
-          (λ w. absurd (d (w .0)))
+          (λ w. absurd (omega (arith, w .0, d)))
           (h .met r l)
 
-      -- the latest entry on a record that has the mark
-      pub latest-on : getD last r 0 ≡ mark → (getD latest r 0 < i) × (e (getD latest r 0) .address % n ≡ e i .address % n)
-      latest-on d = ⊎-elim (λ w. absurd (omega (arith, w .0, d))) (λ w. (w .1, w .2 ∙ q)) (h .met r l)
+      -- the latest entry on a record whose cell is not
+      pub latest-on : base ≤ getD cells r 0 → (getD cells r 0 - base < i) × (e (getD cells r 0 - base) .address % n ≡ e i .address % n)
+      latest-on d = ⊎-elim (λ w. absurd (omega (arith, w .0, d))) (λ w. (omega (arith, w .0, w .1), w .2 ∙ q)) (h .met r l)
 
-  -- at the task's end its marks are below the next task's
-  pub marks-below : {i : ℕ} → Noted n e mark told last latest i → (r : ℕ) → r < n → getD last r 0 < mark + 1
-  marks-below h r l = ⊎-elim (λ w. omega (arith, w .0)) (λ w. omega (arith, w .0)) (h .met r l)
+  -- with at most 64 entries passed, every cell is below the next task's base
+  pub cells-below : {i : ℕ} → Noted n e base told cells i → i ≤ 64 → (r : ℕ) → r < n → getD cells r 0 < base + 64
+  cells-below h k r l = ⊎-elim (λ w. omega (arith, w .0)) (λ w. omega (arith, w .1)) (h .met r l)

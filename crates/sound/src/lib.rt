@@ -29,25 +29,25 @@ fn records_ok(records: &[u32], owned: &[bool]) -> bool
     faults == 0
 }
 
-// Each task's row and entries, and then the records. Four tables save work: `told` has the address of each entry of the task that
-// was passed; `last` has for each record the mark of the last task with an entry on it, and `latest` that entry, so that only an
-// entry on a record that its task has met is held against others: its versions against that one's, since all before it agree,
-// and its address against all; `owned` has the records whose owner was found to have an entry on them, so that no record is
-// searched for. The pairs go to `until`, which is i, in a form that tells the compiler that it is below 64.
+// Each task's row and entries, and then the records. Three tables save work: `told` has the address of each entry of the task that
+// was passed; `met` has for each record the last entry on it of the last task with one, counted from that task's `base`, so that
+// only an entry on a record that its task has met is held against others: its versions against that one's, since all before it
+// agree, and its address against all; `owned` has the records whose owner was found to have an entry on them, so that no record is
+// searched for. What earlier tasks left in `met` is below `base`, and so is 0, for none. The pairs go to `until`, which is i, in a
+// form that tells the compiler that it is below 64.
 fn tables_ok(
     sizes: Sizes,
     records: &[u32],
     places: &[[u32; 3]],
     entries: &[[u32; 5]],
-    last: &mut [u8],
-    latest: &mut [u8],
+    met: &mut [u16],
     owned: &mut [bool],
 ) -> bool
-    requires { ⌜ Fit sizes (memory [] (now records) (now places) (now entries)) × Room sizes (now last) (now latest) (now owned) ⌝ }
+    requires { ⌜ Fit sizes (memory [] (now records) (now places) (now entries)) × Room sizes (now met) (now owned) ⌝ }
     ensures { λ r. ⌜ r ≡ tablesOk sizes (memory [] (now (records .entry)) (now (places .entry)) (now (entries .entry))) ⌝ }
 {
     let by = parts::inverse_of(sizes);
-    // Larger limits end here first: an address is noted in 16 bits, a task's mark and an entry's place in 8.
+    // Larger limits end here first: an address is noted in 16 bits, and so is an entry with its task.
     let mut told = [0u16; memory::MOST_ENTRIES];
     let mut t: usize = 0;
     'tasks: while t < sizes.tasks {
@@ -58,7 +58,7 @@ fn tables_ok(
         let n = place[0] as usize;
         let from = parts::owns_from(sizes, place);
         let owner = memory::FIRST_OWNER + t as u32;
-        let mark = (t + 1) as u8;
+        let base = memory::MOST_ENTRIES * (t + 1);
         let start = memory::MOST_ENTRIES * t;
         let run = &entries[start..];
         // A list that a task's row leads to, as one of sleepers, is walked here, beside its entries.
@@ -71,8 +71,9 @@ fn tables_ok(
             }
             let record = parts::record_of(sizes, by, entry);
             let address = entry[0] as u16;
-            if last[record] == mark {
-                let at = latest[record] as usize;
+            let seen = met[record] as usize;
+            if base <= seen {
+                let at = seen - base;
                 let other = run[at];
                 if !parts::agree(other, entry) {
                     break 'tasks;
@@ -87,8 +88,7 @@ fn tables_ok(
                 }
             }
             told[i] = address;
-            last[record] = mark;
-            latest[record] = i as u8;
+            met[record] = (base + i) as u16;
             if from <= i {
                 if records[record] == owner {
                     owned[record] = true;
@@ -101,27 +101,24 @@ fn tables_ok(
     t == sizes.tasks && records_ok(records, owned)
 }
 
-// The same with room for `last`, `latest` and `owned`, in this order: the fewer records, the less there is to clear.
+// The same with room for `met` and `owned`, in this order: the fewer records, the less there is to clear.
 fn room_ok(sizes: Sizes, records: &[u32], places: &[[u32; 3]], entries: &[[u32; 5]]) -> bool
     requires { ⌜ Fit sizes (memory [] (now records) (now places) (now entries)) ⌝ }
     ensures { λ r. ⌜ r ≡ tablesOk sizes (memory [] (now (records .entry)) (now (places .entry)) (now (entries .entry))) ⌝ }
 {
     if sizes.records <= FEW_RECORDS {
-        let mut who = [0u8; FEW_RECORDS];
-        let mut at = [0u8; FEW_RECORDS];
+        let mut last = [0u16; FEW_RECORDS];
         let mut own = [false; FEW_RECORDS];
-        return tables_ok(sizes, records, places, entries, &mut who, &mut at, &mut own);
+        return tables_ok(sizes, records, places, entries, &mut last, &mut own);
     }
     if sizes.records <= SOME_RECORDS {
-        let mut who = [0u8; SOME_RECORDS];
-        let mut at = [0u8; SOME_RECORDS];
+        let mut last = [0u16; SOME_RECORDS];
         let mut own = [false; SOME_RECORDS];
-        return tables_ok(sizes, records, places, entries, &mut who, &mut at, &mut own);
+        return tables_ok(sizes, records, places, entries, &mut last, &mut own);
     }
-    let mut who = [0u8; memory::MOST_RECORDS];
-    let mut at = [0u8; memory::MOST_RECORDS];
+    let mut last = [0u16; memory::MOST_RECORDS];
     let mut own = [false; memory::MOST_RECORDS];
-    tables_ok(sizes, records, places, entries, &mut who, &mut at, &mut own)
+    tables_ok(sizes, records, places, entries, &mut last, &mut own)
 }
 
 // Whether the lent table is sound: the answer is the definition's, for any sizes and any four slices.

@@ -13,7 +13,7 @@ some : tie.Need-tables-ok-requires-2
 some c κs = (search needs, room _ 256 (omega arith))
 
 most : tie.Need-tables-ok-requires-3
-most c κs = (search needs, room _ 1024 (c .before .before .before .before .before .before .before .before .pre .most))
+most c κs = (search needs, room _ 1024 (c .before .before .before .before .before .before .before .pre .most))
 
 pub room-ok-spec : {M : Type 1} → statement M
 room-ok-spec =
@@ -21,16 +21,13 @@ room-ok-spec =
     (tie.spec
     (answer tie.Need-slice-aggregate-tables-ok (λ c. search needs))
     (answer tie.Need-slice-aggregate-tables-ok-2 (λ c. search needs))
-    (answer tie.Need-slice-aggregate-tables-ok-3 (λ c. search needs))
     few
     (answer tie.Need-returns (λ c. search needs))
+    (answer tie.Need-slice-aggregate-tables-ok-3 (λ c. search needs))
     (answer tie.Need-slice-aggregate-tables-ok-4 (λ c. search needs))
-    (answer tie.Need-slice-aggregate-tables-ok-5 (λ c. search needs))
-    (answer tie.Need-slice-aggregate-tables-ok-6 (λ c. search needs))
     some
     (answer tie.Need-returns-2 (λ c. search needs))
-    (answer tie.Need-slice-aggregate-tables-ok-7 (λ c. search needs))
-    (answer tie.Need-slice-aggregate-tables-ok-8 (λ c. search needs))
-    (answer tie.Need-slice-aggregate-tables-ok-9 (λ c. search needs))
+    (answer tie.Need-slice-aggregate-tables-ok-5 (λ c. search needs))
+    (answer tie.Need-slice-aggregate-tables-ok-6 (λ c. search needs))
     most
     (answer tie.Need-returns-3 (λ c. search needs)))

@@ -7,8 +7,8 @@ mod Ends
 use borrow.Author.Needs.{needs}
 use Loops.{Inv-pairs, μ-pairs, Inv-entries, μ-entries, Inv-tasks, μ-tasks, walk}
 use Tasks.{tasks-holds, cast-n, owns-from-requires, entries-holds, tasks-again}
-use Entries.{record-of-requires, cast-address, slice-read-if4, slice-write-last, slice-write-latest, slice-write-owned, entries-again}
-use Pairs.{slice-read-at, cast-at, mul-other, shared-slice-copy-out-other, pairs-holds, pairs-again}
+use Entries.{record-of-requires, cast-address, slice-read-seen, cast-seen, slice-write-met, slice-write-owned, entries-again}
+use Pairs.{mul-other, shared-slice-copy-out-other, pairs-holds, pairs-again}
 use Ends.{ended, records-ok-requires, returns, returns-2}
 use Rattle.sound.proofs.Answer.{answer}
 use Rattle.sound.proofs.tables_ok.Statement.{statement}
@@ -34,8 +34,8 @@ tables-ok-spec =
     owns-from-requires
     (answer (walk tie.Need-cast-owner) (λ c. search needs))
     (answer (walk tie.Need-add-owner) (λ c. search needs))
-    (answer (walk tie.Need-add-mark) (λ c. search needs))
-    (answer (walk tie.Need-cast-mark) (λ c. search needs))
+    (answer (walk tie.Need-add-base) (λ c. search needs))
+    (answer (walk tie.Need-mul-base) (λ c. search needs))
     (answer (walk tie.Need-mul-start) (λ c. search needs))
     (answer (walk tie.Need-mul-run) (λ c. search needs))
     (answer (walk tie.Need-sub-run) (λ c. search needs))
@@ -48,9 +48,9 @@ tables-ok-spec =
     record-of-requires
     (answer (walk tie.Need-array-read-address) (λ c. search needs))
     cast-address
-    slice-read-if4
-    slice-read-at
-    cast-at
+    (answer (walk tie.Need-mul-seen) (λ c. search needs))
+    slice-read-seen
+    cast-seen
     mul-other
     shared-slice-copy-out-other
     (answer (walk tie.Need-agree-requires) (λ c κs. search needs))
@@ -62,9 +62,10 @@ tables-ok-spec =
     pairs-again
     (answer (walk tie.Need-mul-told) (λ c. search needs))
     (answer (walk tie.Need-array-write-told) (λ c. search needs))
-    slice-write-last
-    (answer (walk tie.Need-cast-latest) (λ c. search needs))
-    slice-write-latest
+    (answer (walk tie.Need-add-met) (λ c. search needs))
+    (answer (walk tie.Need-cast-met) (λ c. search needs))
+    (answer (walk tie.Need-mul-met) (λ c. search needs))
+    slice-write-met
     (answer (walk tie.Need-mul-if8) (λ c. search needs))
     (answer (walk tie.Need-shared-slice-read-if8) (λ c. search needs))
     slice-write-owned
@@ -75,11 +76,9 @@ tables-ok-spec =
     (answer (walk tie.Need-tasks-less) (λ c. search needs))
     tasks-again
     records-ok-requires
-    (answer (walk tie.Need-same-length) (λ c. ended (c .before .before .before .before) .kept .last))
-    (answer (walk tie.Need-same-length-2) (λ c. ended (c .before .before .before .before) .kept .latest))
-    (answer (walk tie.Need-same-length-3) (λ c. ended (c .before .before .before .before) .kept .owned))
+    (answer (walk tie.Need-same-length) (λ c. ended (c .before .before .before .before) .kept .met))
+    (answer (walk tie.Need-same-length-2) (λ c. ended (c .before .before .before .before) .kept .owned))
     returns
-    (answer (walk tie.Need-same-length-4) (λ c. ended (c .before .before) .kept .last))
-    (answer (walk tie.Need-same-length-5) (λ c. ended (c .before .before) .kept .latest))
-    (answer (walk tie.Need-same-length-6) (λ c. ended (c .before .before) .kept .owned))
+    (answer (walk tie.Need-same-length-3) (λ c. ended (c .before .before) .kept .met))
+    (answer (walk tie.Need-same-length-4) (λ c. ended (c .before .before) .kept .owned))
     returns-2)

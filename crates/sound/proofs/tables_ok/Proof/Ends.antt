@@ -15,33 +15,33 @@ abbrev over : walk tie.Joined1 → walk tie.At-tasks
 over c = c .before .before
 
 -- every way out of the walk
-pub ended : (c : walk tie.Joined1) → let k = over c in Ended (z k) (m k) (room k) (marks (c .if1 .last) (c .if1 .latest) (c .if1 .owned)) (k .tasks .t)
+pub ended : (c : walk tie.Joined1) → let k = over c in Ended (z k) (m k) (room k) (marks (c .if1 .met) (c .if1 .owned)) (k .tasks .t)
 unfolding entryOf
 ended c =
     let g = fit (over c) in
     let f = over c .tasks .inv in
     elim (c .if1 .came) [
-      | inl (test, last, latest, owned) ↦ record { kept = kept-as last latest owned (f .kept); how = inl (all-passed f (test .left) owned) }
-      | inr (inl (test, _, row, wrong, last, latest, owned)) ↦
-          record { kept = kept-as last latest owned (f .kept); how = inr (place-fault (test .taken) (refused (row .ensures) (wrong .taken))) }
-      | inr (inr (inl (test, _, row, right, owns, _, entries, more, _, entry, wrong, last, latest, owned))) ↦
+      | inl (test, met, owned) ↦ record { kept = kept-as met owned (f .kept); how = inl (all-passed f (test .left) owned) }
+      | inr (inl (test, _, row, wrong, met, owned)) ↦
+          record { kept = kept-as met owned (f .kept); how = inr (place-fault (test .taken) (refused (row .ensures) (wrong .taken))) }
+      | inr (inr (inl (test, _, row, right, owns, _, entries, more, _, entry, wrong, met, owned))) ↦
           let t = task-of g (test .taken) (passed (row .ensures) (right .left)) (owns .ensures) in
           record {
-            kept = kept-as last latest owned (kept-then (f .kept) (entries .inv .kept));
+            kept = kept-as met owned (kept-then (f .kept) (entries .inv .kept));
             how = inr (entry-fault t (more .taken) (refused (entry .ensures) (wrong .taken)));
           }
-      | inr (inr (inr (inl (test, _, row, right, owns, _, entries, more, _, entry, good, on, _, met, _, _, agree, wrong, last, latest, owned)))) ↦
+      | inr (inr (inr (inl (test, _, row, right, owns, _, entries, more, _, entry, good, on, _, below, _, agree, wrong, met, owned)))) ↦
           let t = task-of g (test .taken) (passed (row .ensures) (right .left)) (owns .ensures) in
           let e = at-entry t (entries .inv) (more .taken) (passed (entry .ensures) (good .left)) (on .ensures .0) (on .ensures .1) in
           record {
-            kept = kept-as last latest owned (kept-then (f .kept) (entries .inv .kept));
-            how = inr (versions-fault e (met .taken) (refused (agree .ensures) (wrong .taken)));
+            kept = kept-as met owned (kept-then (f .kept) (entries .inv .kept));
+            how = inr (versions-fault e (below .taken) (refused (agree .ensures) (wrong .taken)));
           }
-      | inr (inr (inr (inr (test, _, row, right, owns, _, entries, more, _, entry, good, on, _, _, _, _, _, _, pairs, again, equal, last, latest, owned)))) ↦
+      | inr (inr (inr (inr (test, _, row, right, owns, _, entries, more, _, entry, good, on, _, _, _, _, _, pairs, again, equal, met, owned)))) ↦
           let t = task-of g (test .taken) (passed (row .ensures) (right .left)) (owns .ensures) in
           let e = at-entry t (entries .inv) (more .taken) (passed (entry .ensures) (good .left)) (on .ensures .0) (on .ensures .1) in
           record {
-            kept = kept-as last latest owned (kept-then (f .kept) (entries .inv .kept));
+            kept = kept-as met owned (kept-then (f .kept) (entries .inv .kept));
             how = inr (address-fault e (pairs .j) (omega (arith, again .taken, in-run e)) (equal .taken));
           }
     ]

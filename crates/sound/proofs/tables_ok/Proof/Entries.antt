@@ -9,7 +9,7 @@ use Rattle.memory.specs.Pieces.{mostWords, place, entryOf}
 use Rattle.parts.proofs.Tests.{passed}
 use Rattle.sound.proofs.Pairs.{address-below}
 use Rattle.sound.proofs.Owners.{Vouched, vouched-early, vouched-other, vouched-more}
-use Rattle.sound.proofs.Found.{run, Apart, apart-fresh, apart-met, in-run, entries-more}
+use Rattle.sound.proofs.Found.{run, Apart, apart-fresh, apart-met, cell-below, in-run, entries-more}
 use Rattle.sound.proofs.tables_ok.Proof.Loops.{walk, z, m, fit, of-task, by-itself, of-run, of-entry, its-task, entry}
 use Rattle.sound.proofs.tables_ok.Tie as tie
 
@@ -25,14 +25,14 @@ unfolding entryOf
 cast-address c = omega (arith, address-few (c .before))
 
 -- each table has a cell for the entry's record
-pub slice-read-if4 : walk tie.Need-slice-read-if4
-slice-read-if4 c = let e = entry (c .before) in omega (arith, e .known, e .found .wide .last)
+pub slice-read-seen : walk tie.Need-slice-read-seen
+slice-read-seen c = let e = entry (c .before) in omega (arith, e .known, e .found .wide .met)
 
-pub slice-write-last : walk tie.Need-slice-write-last
-slice-write-last c = let e = entry (c .before .before) in omega (arith, e .known, e .found .wide .last)
+pub cast-seen : walk tie.Need-cast-seen
+cast-seen c = let e = entry (c .before) in omega (arith, cell-below e, e .task .known, e .task .fit .tasks)
 
-pub slice-write-latest : walk tie.Need-slice-write-latest
-slice-write-latest c = let e = entry (c .before .before) in omega (arith, e .known, e .found .wide .latest)
+pub slice-write-met : walk tie.Need-slice-write-met
+slice-write-met c = let e = entry (c .before .before) in omega (arith, e .known, e .found .wide .met)
 
 pub slice-write-owned : walk tie.Need-slice-write-owned
 slice-write-owned c = let e = entry (c .before .before .before .before .before) in omega (arith, e .known, e .found .owned .size)
@@ -43,7 +43,7 @@ unfolding entryOf
 apart c =
     let e = entry (c .before .before) in
     elim (c .if4 .came) [
-      | inl (met, _, _, agree, versions, pairs, all) ↦
+      | inl (met, _, agree, versions, pairs, all) ↦
           apart-met e (met .taken) (passed (agree .ensures) (versions .left)) (λ x h. pairs .inv .others x (omega (arith, h, all .left, in-run e)))
       | inr new ↦ apart-fresh e (new .left)
     ]

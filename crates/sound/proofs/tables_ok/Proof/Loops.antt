@@ -17,28 +17,28 @@ use Rattle.sound.proofs.tables_ok.Tie as tie
 abbrev pub lent : List ℕ → List (List ℕ) → List (List ℕ) → Memory
 lent rs ps es = memory [] rs ps es
 
-abbrev pub marks : List ℕ → List ℕ → List Bool → Marks
-marks last latest owned = record { last = last; latest = latest; owned = owned }
+abbrev pub marks : List ℕ → List Bool → Marks
+marks met owned = record { met = met; owned = owned }
 
 abbrev pub Inv-pairs : tie.InvT-pairs
-Inv-pairs sizes records places entries last latest owned by told t n from owner mark start run i «record» address at until j₀ j = PairsFound told address i j
+Inv-pairs sizes records places entries met owned by told t n from owner base start run i «record» address seen at until j₀ j = PairsFound told address i j
 
 abbrev pub μ-pairs : tie.MeasureT-pairs
-μ-pairs sizes records places entries last latest owned by told t n from owner mark start run i «record» address at until j₀ j = i - j
+μ-pairs sizes records places entries met owned by told t n from owner base start run i «record» address seen at until j₀ j = i - j
 
 abbrev pub Inv-entries : tie.InvT-entries
-Inv-entries sizes records places entries last₀ latest₀ owned₀ by told₀ t n from owner mark start run i₀ last latest owned told i =
-    EntriesFound sizes (lent records places entries) t n (marks last₀ latest₀ owned₀) told (marks last latest owned) i
+Inv-entries sizes records places entries met₀ owned₀ by told₀ t n from owner base start run i₀ met owned told i =
+    EntriesFound sizes (lent records places entries) t n (marks met₀ owned₀) told (marks met owned) i
 
 abbrev pub μ-entries : tie.MeasureT-entries
-μ-entries sizes records places entries last₀ latest₀ owned₀ by told₀ t n from owner mark start run i₀ last latest owned told i = n - i
+μ-entries sizes records places entries met₀ owned₀ by told₀ t n from owner base start run i₀ met owned told i = n - i
 
 abbrev pub Inv-tasks : tie.InvT-tasks
-Inv-tasks sizes records places entries last₀ latest₀ owned₀ by told₀ t₀ last latest owned told t =
-    TasksFound sizes (lent records places entries) (marks last₀ latest₀ owned₀) told (marks last latest owned) t
+Inv-tasks sizes records places entries met₀ owned₀ by told₀ t₀ met owned told t =
+    TasksFound sizes (lent records places entries) (marks met₀ owned₀) told (marks met owned) t
 
 abbrev pub μ-tasks : tie.MeasureT-tasks
-μ-tasks sizes records places entries last₀ latest₀ owned₀ by told₀ t₀ last latest owned told t = sizes .tasks - t
+μ-tasks sizes records places entries met₀ owned₀ by told₀ t₀ met owned told t = sizes .tasks - t
 
 -- a place or a need of the walk, at these loops
 abbrev pub Of : Type 1
@@ -50,7 +50,7 @@ walk P = P Inv-pairs μ-pairs Inv-entries μ-entries Inv-tasks μ-tasks
 -- What was lent to the call: the sizes, the tables that are read and those that are written; and the latter as the tasks left them.
 module _ (c : walk tie.At-tasks) where
   abbrev pub start : walk tie.Start
-  start = c .before .before .before .before .before .before
+  start = c .before .before .before .before .before
 
   abbrev pub z : Sizes
   z = start .args .sizes
@@ -59,10 +59,10 @@ module _ (c : walk tie.At-tasks) where
   m = let a = start .args in lent (now (a .records)) (now (a .places)) (now (a .entries))
 
   abbrev pub room : Marks
-  room = let a = start .args in marks (now (a .last)) (now (a .latest)) (now (a .owned))
+  room = let a = start .args in marks (now (a .met)) (now (a .owned))
 
   abbrev pub by-tasks : Marks
-  by-tasks = marks (c .tasks .last) (c .tasks .latest) (c .tasks .owned)
+  by-tasks = marks (c .tasks .met) (c .tasks .owned)
 
   pub fit : Fit z m
   fit = start .pre .0
@@ -103,7 +103,7 @@ module _ (c : walk tie.After-record-of) where
   its-task = of-run (c .before)
 
   abbrev pub by-entries : Marks
-  by-entries = marks (of-entry .entries .last) (of-entry .entries .latest) (of-entry .entries .owned)
+  by-entries = marks (of-entry .entries .met) (of-entry .entries .owned)
 
   pub entry : let k = of-task its-task in
       AtEntry (z k) (m k) (k .tasks .t) (getD (row (its-task .before)) 0 0) (its-task .owns-from .result) (by-tasks k) (of-entry .entries .told) by-entries (of-entry .entries .i) (c .record-of .result)

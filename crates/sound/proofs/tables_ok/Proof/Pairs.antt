@@ -1,27 +1,21 @@
 -- An entry on a record that its task has met: the latest entry there, and the loop over the addresses told.
-use Prim.Native.Nat.{ℕ, _<_}
+use Prim.Native.Nat.{ℕ, _+_, _-_, _*_, _<_}
 use native.Mathlib.Omega.{arith}
 use mathlib.Core.Path.{sym, ap, _∙_}
 use mathlib.Core.Logic.{inl, inr}
 use lib.ListN.{getD}
 use Rattle.memory.proofs.Tools.{same?}
 use Rattle.sound.proofs.Found.{in-run, latest-at, run-length}
-use Rattle.sound.proofs.tables_ok.Proof.Loops.{walk, task, of-entry, its-task, entry}
+use Rattle.sound.proofs.tables_ok.Proof.Loops.{walk, of-task, task, of-entry, its-task, entry}
 use Rattle.sound.proofs.tables_ok.Tie as tie
 
--- the entry at hand is on a record with its task's mark
-module _ (c : walk tie.After-slice-known5) where
+-- the entry at hand is on a record that its task has met
+module _ (c : walk tie.Then4) where
   abbrev on-record : walk tie.After-record-of
-  on-record = c .before .before .before
+  on-record = c .before .before
 
-  latest-below : getD (of-entry on-record .entries .latest) (on-record .record-of .result) 0 < 64
-  latest-below = let e = entry on-record in omega (arith, latest-at e (c .before .if4 .taken) .0, in-run e)
-
-pub slice-read-at : walk tie.Need-slice-read-at
-slice-read-at c = let e = entry (on-record c) in omega (arith, e .known, e .found .wide .latest)
-
-pub cast-at : walk tie.Need-cast-at
-cast-at c = omega (arith, latest-below c)
+  latest-below : getD (of-entry on-record .entries .met) (on-record .record-of .result) 0 - 64 * (of-task (its-task on-record) .tasks .t + 1) < 64
+  latest-below = let e = entry on-record in omega (arith, latest-at e (c .if4 .taken) .0, in-run e)
 
 pub mul-other : walk tie.Need-mul-other
 mul-other c = omega (arith, latest-below c)

@@ -7,7 +7,7 @@ use Rattle.sound.proofs.tables_ok.Proof.Loops.{walk, row-right, of-task
 use Rattle.sound.proofs.tables_ok.Tie as tie
 
 pub tasks-holds : walk tie.Need-tasks-holds
-tasks-holds c = tasks-none (c .before .before .before .before .before .pre .1) refl
+tasks-holds c = tasks-none (c .before .before .before .before .pre .1) refl
 
 pub cast-n : walk tie.Need-cast-n
 cast-n c = let h = count-most _ _ (row-right c) in omega arith
