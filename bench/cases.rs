@@ -2,7 +2,7 @@
 
 use crate::second_machine::tables::{ask_library, load};
 use crate::second_machine::{Machine, Request, Task};
-use chezumobari::{Answer, Sizes, Tables};
+use chezumobari::{Answer, Sizes, Tables, ENTRIES_PER_TASK};
 use std::hint::black_box;
 use std::time::Instant;
 
@@ -72,7 +72,8 @@ impl Scene {
         let mut scene = Scene::open(words, records, tasks);
         for task in 1..tasks {
             scene.must(task, Request::Start);
-            (0..entries).for_each(|i| scene.must(task, Request::Read((task * 64 + i) % (words - 4))));
+            let first = task * ENTRIES_PER_TASK;
+            (0..entries).for_each(|i| scene.must(task, Request::Read((first + i) % (words - 4))));
         }
         scene
     }

@@ -7,6 +7,7 @@ mod plot;
 mod second_machine;
 
 use cases::{calls, checked_transaction, mutex_transaction, opening, unchecked_transaction, Scene};
+use chezumobari::{ENTRIES_PER_TASK, MOST_RECORDS, MOST_TASKS, MOST_WORDS};
 use std::path::Path;
 use std::process::Command;
 
@@ -51,8 +52,8 @@ fn boards() -> Boards {
         small: Scene::small(),
         club: Scene::busy(256, 64, 8, 8),
         evening: Scene::evening(26),
-        full: Scene::busy(4096, 1024, 32, 64),
-        crowded: Scene::busy(4096, 1, 32, 64),
+        full: Scene::busy(MOST_WORDS, MOST_RECORDS, MOST_TASKS, ENTRIES_PER_TASK),
+        crowded: Scene::busy(MOST_WORDS, 1, MOST_TASKS, ENTRIES_PER_TASK),
     }
 }
 
@@ -184,9 +185,10 @@ fn growth() -> Vec<plot::Line> {
         let points = sizes.iter().map(|&n| (n as f64, scene(n).look())).collect();
         plot::Line { name, colour, points }
     };
+    let entries = [1, 2, 4, 8, 16, 32, ENTRIES_PER_TASK];
     vec![
-        line("entries, one record", "#8a1c3b", &[1, 2, 4, 8, 16, 32, 64], &|n| Scene::busy(4096, 1, 32, n)),
-        line("entries", "#1b6ca8", &[1, 2, 4, 8, 16, 32, 64], &|n| Scene::busy(4096, 1024, 32, n)),
+        line("entries, one record", "#8a1c3b", &entries, &|n| Scene::busy(4096, 1, 32, n)),
+        line("entries", "#1b6ca8", &entries, &|n| Scene::busy(4096, 1024, 32, n)),
         line("tasks", "#b5542b", &[1, 2, 4, 8, 16, 32], &|n| Scene::busy(4096, 1024, n, 8)),
         line("records", "#2e7d4f", &[1, 4, 16, 64, 256, 1024], &|n| Scene::busy(4096, n, 2, 8)),
         line("words", "#6a4c93", &[128, 256, 512, 1024, 2048, 4096], &|n| Scene::busy(n, 64, 2, 8)),

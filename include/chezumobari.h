@@ -45,7 +45,7 @@ extern const char chezumobari_version[];
 #define CHEZUMOBARI_NO_SUCH_TASK 3     /* the task number is not below the number of tasks */
 #define CHEZUMOBARI_WRONG_PHASE 4      /* the task's phase does not allow the request */
 #define CHEZUMOBARI_NO_SUCH_ADDRESS 5  /* the address is not below the number of words */
-#define CHEZUMOBARI_FULL 6             /* a new address with 64 entries present */
+#define CHEZUMOBARI_FULL 6             /* a new address with CHEZUMOBARI_ENTRIES_PER_TASK entries present */
 #define CHEZUMOBARI_NOTHING_TO_SLEEP_ON 7 /* a wait with no entries */
 #define CHEZUMOBARI_VERSIONS_USED_UP 8 /* a write where the record's old version is the highest */
 #define CHEZUMOBARI_OVERTAKEN 9        /* the record of a new address has changed: the transaction has ended */

@@ -2,8 +2,9 @@
  *
  * All numbers are little-endian, whatever the machine is. The bytes are, in order: the eight letters
  * chezumob; the version of the format, 32 bits, which is 1; how many words, records and tasks, 32 bits
- * each; every word, every record, every place (3 numbers) and every entry (5 numbers), 32 bits each; a
- * checksum of all bytes before it, 64 bits, FNV-1a. The Rust package reads and writes the same.
+ * each; every word, every record, every place and every entry, number by number as their structs have
+ * them, 32 bits each; a checksum of all bytes before it, 64 bits, FNV-1a. The Rust package reads and
+ * writes the same.
  *
  * A sleeper is saved asleep, and sleeps on. If the board was one that an opening and calls had reached,
  * the loaded one is that board again, and what is promised of it goes on. Bytes that somebody else
@@ -80,12 +81,12 @@ static inline uint32_t chezumobari_save(const chezumobari_board *board, unsigned
     for (size_t i = 0; i < z.tasks; i++) {
         const chezumobari_place *p = &board->places[i];
         const uint32_t row[] = {p->count, p->phase, p->position};
-        at = chezumobari_put_numbers(at, row, 3);
+        at = chezumobari_put_numbers(at, row, sizeof row / sizeof *row);
     }
     for (size_t i = 0; i < CHEZUMOBARI_ENTRY_ROWS(z.tasks); i++) {
         const chezumobari_entry *e = &board->entries[i];
         const uint32_t row[] = {e->address, e->old_value, e->new_value, e->old_version, e->new_version};
-        at = chezumobari_put_numbers(at, row, 5);
+        at = chezumobari_put_numbers(at, row, sizeof row / sizeof *row);
     }
     whole = chezumobari_checksum(bytes, (size_t)(at - bytes));
     sum[0] = (uint32_t)whole;

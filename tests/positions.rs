@@ -1,7 +1,8 @@
 //! The specification's positions K1 to K11 and its limits, through the safe wrapper.
 
 use chezumobari::{
-    Board, Outcome, Phase, Progress, Refusal, Seen, Sizes, Tables, MOST_RECORDS, MOST_TASKS, MOST_WORDS, TOP_VERSION,
+    Board, Outcome, Phase, Progress, Refusal, Seen, Sizes, Tables, ENTRIES_PER_TASK, MOST_RECORDS, MOST_TASKS,
+    MOST_WORDS, TOP_VERSION,
 };
 
 const SMALL: Sizes = Sizes { words: 4, records: 2, tasks: 2 };
@@ -123,16 +124,16 @@ fn k11_versions_used_up() {
 }
 
 #[test]
-fn the_65th_address_is_refused() {
+fn one_address_too_many_is_refused() {
     let mut board = Board::open(Sizes { words: 100, records: 10, tasks: 1 }, 1).unwrap();
     board.task(0).start().unwrap();
-    for address in 0..64 {
+    for address in 0..ENTRIES_PER_TASK {
         assert_eq!(board.task(0).read(address), Ok(0));
     }
-    assert_eq!(board.task(0).read(64), Err(Refusal::Full));
-    assert_eq!(board.task(0).write(64, 1), Err(Refusal::Full));
-    assert_eq!(board.task(0).write(63, 5), Ok(()));
-    assert_eq!(board.task(0).read(63), Ok(5));
+    assert_eq!(board.task(0).read(ENTRIES_PER_TASK), Err(Refusal::Full));
+    assert_eq!(board.task(0).write(ENTRIES_PER_TASK, 1), Err(Refusal::Full));
+    assert_eq!(board.task(0).write(ENTRIES_PER_TASK - 1, 5), Ok(()));
+    assert_eq!(board.task(0).read(ENTRIES_PER_TASK - 1), Ok(5));
 }
 
 #[test]
@@ -161,7 +162,7 @@ fn tables_from_elsewhere_are_checked() {
     let board = fresh();
     assert_eq!(Board::from_tables(SMALL, board.tables().clone()), board);
     let mut damaged = board.tables().clone();
-    damaged.places[1] = [65, 1, 0];
+    damaged.places[1] = [ENTRIES_PER_TASK as u32 + 1, 1, 0];
     let mut board = Board::from_tables(SMALL, damaged.clone());
     assert_eq!(board.look(0), Err(Refusal::Unsound));
     assert_eq!(board.task(0).start(), Err(Refusal::Unsound));

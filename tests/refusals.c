@@ -1,12 +1,17 @@
-/* Bad input from C: every length, task, address, size and content is refused by its number, and a
- * refusal changes nothing. Ends with 1 at the first call that answers something else. */
+/* What only C can show of bad input: null tables, a length one short for each of the nine functions, sizes, tasks
+ * and addresses beyond 32 bits, each field of the structs where the code reads it, and the names of the numbers.
+ * A refusal changes nothing. Ends with 1 at the first call that answers something else.
+ *
+ * Two others try the rest. crates/try_limits/stdin has each limit at its number and one past it, which number wins
+ * where two apply, and a table that is unsound by each clause. tests/against_second_machine/damaged.rs has damage,
+ * lengths and sizes at random. */
 #include "chezumobari.h"
 
 #include <stdio.h>
 #include <stdlib.h>
 #include <string.h>
 
-enum { WORDS = 100, RECORDS = 10, TASKS = 3 };
+enum { WORDS = 100, RECORDS = 10, TASKS = 3, RUN = CHEZUMOBARI_ENTRIES_PER_TASK };
 
 /* All four tables in one block, so that a copy of it is a copy of everything. */
 typedef struct tables {
@@ -16,177 +21,213 @@ typedef struct tables {
 } tables;
 
 static tables now, before;
-static chezumobari_sizes sizes = {WORDS, RECORDS, TASKS};
 static int checked;
 
-/* The tables with their true lengths, whatever the sizes say. */
-#define TABLES now.words, WORDS, now.records, RECORDS, now.places, TASKS, now.entries, CHEZUMOBARI_ENTRY_ROWS(TASKS)
+/* How the tables are lent: a test that changes one of these puts it back. */
+static chezumobari_sizes sizes = {.words = WORDS, .records = RECORDS, .tasks = TASKS};
+static size_t rows[4] = {WORDS, RECORDS, TASKS, CHEZUMOBARI_ENTRY_ROWS(TASKS)};
+static int null;
+
+#define TABLE(name) (null ? NULL : now.name)
+#define TABLES TABLE(words), rows[0], TABLE(records), rows[1], TABLE(places), rows[2], TABLE(entries), rows[3]
+#define OPEN(first) chezumobari_open(sizes, first, TABLES)
+#define ASK(request, ...) chezumobari_##request(sizes, TABLES, __VA_ARGS__)
 
 static void expect(const char *what, uint32_t number, uint32_t wanted)
 {
     if (number != wanted) {
-        printf("%s: answered %u, wanted %u\n", what, (unsigned)number, (unsigned)wanted);
+        printf("%s: %u, wanted %u\n", what, (unsigned)number, (unsigned)wanted);
         exit(1);
     }
     checked++;
 }
 
+#define SAME(what, wanted) expect(#what, what, wanted)
+#define DONE(call) SAME((call).number, CHEZUMOBARI_DONE)
+
 /* The call is refused with this number, and the tables are what they were. */
 #define REFUSED(call, wanted)                                                                      \
     do {                                                                                           \
         before = now;                                                                              \
-        expect(#call, (call).number, wanted);                                                      \
+        SAME((call).number, wanted);                                                               \
         expect(#call " changes nothing", memcmp(&before, &now, sizeof now) != 0, 0);               \
     } while (0)
-#define DONE(call) expect(#call, (call).number, CHEZUMOBARI_DONE)
 
-#define OPEN(first) chezumobari_open(sizes, first, TABLES)
-#define ASK(request, ...) chezumobari_##request(sizes, TABLES, __VA_ARGS__)
-
-/* Every request and the look-up answer this number, for a task and an address that are there. */
-static void all_refused(uint32_t wanted)
+/* Every request of a task answers this number. */
+static void requests_refused(size_t task, uint32_t wanted)
 {
-    REFUSED(ASK(start, 0), wanted);
-    REFUSED(ASK(read, 0, 0), wanted);
-    REFUSED(ASK(write, 0, 0, 1), wanted);
-    REFUSED(ASK(abort, 0), wanted);
-    REFUSED(ASK(commit, 0), wanted);
-    REFUSED(ASK(wait, 0), wanted);
-    REFUSED(ASK(step, 0), wanted);
+    REFUSED(ASK(start, task), wanted);
+    REFUSED(ASK(read, task, 0), wanted);
+    REFUSED(ASK(write, task, 0, 1), wanted);
+    REFUSED(ASK(abort, task), wanted);
+    REFUSED(ASK(commit, task), wanted);
+    REFUSED(ASK(wait, task), wanted);
+    REFUSED(ASK(step, task), wanted);
+}
+
+/* So do all nine functions, but for the number of the opening. */
+static void all_refused(uint32_t opening, uint32_t wanted)
+{
+    REFUSED(OPEN(1), opening);
+    requests_refused(0, wanted);
     REFUSED(ASK(look, 0), wanted);
 }
 
-static void sizes_and_first_version(void)
+/* null is allowed where the length is 0 */
+static void null_tables(void)
 {
-    static const chezumobari_sizes bad[] = {
-        {0, 1, 1}, {1, 0, 1}, {1, 1, 0},
-        {CHEZUMOBARI_MOST_WORDS + 1, 1, 1}, {1, CHEZUMOBARI_MOST_RECORDS + 1, 1}, {1, 1, CHEZUMOBARI_MOST_TASKS + 1},
-        {SIZE_MAX, SIZE_MAX, SIZE_MAX}, {1, 1, SIZE_MAX / 64 + 1},
-    };
-    const chezumobari_sizes good = sizes;
+    const size_t good[4] = {rows[0], rows[1], rows[2], rows[3]};
+    null = 1;
+    memset(rows, 0, sizeof rows);
+    all_refused(CHEZUMOBARI_UNSOUND, CHEZUMOBARI_UNSOUND);
+    memcpy(rows, good, sizeof rows);
+    null = 0;
+}
 
-    REFUSED(OPEN(0), CHEZUMOBARI_OUT_OF_RANGE);
-    REFUSED(OPEN(CHEZUMOBARI_FIRST_OWNER), CHEZUMOBARI_OUT_OF_RANGE);
+static void lengths_one_short(void)
+{
+    for (int i = 0; i < 4; i++) {
+        rows[i]--;
+        all_refused(CHEZUMOBARI_UNSOUND, CHEZUMOBARI_UNSOUND);
+        rows[i]++;
+    }
+}
+
+/* Each would be good, or would ask for no entries, in fewer bits. */
+static void beyond_32_bits(void)
+{
+    const size_t beyond = (size_t)1 << 32;
+    const chezumobari_sizes good = sizes;
+    const chezumobari_sizes bad[] = {
+        {beyond + WORDS, RECORDS, TASKS}, {WORDS, beyond + RECORDS, TASKS}, {WORDS, RECORDS, beyond + TASKS},
+        {WORDS, RECORDS, SIZE_MAX / RUN + 1}, {SIZE_MAX, SIZE_MAX, SIZE_MAX},
+    };
+
     for (size_t i = 0; i < sizeof bad / sizeof *bad; i++) {
         sizes = bad[i];
-        REFUSED(OPEN(1), CHEZUMOBARI_OUT_OF_RANGE);
-        all_refused(CHEZUMOBARI_UNSOUND);
-        sizes = good;
+        all_refused(CHEZUMOBARI_OUT_OF_RANGE, CHEZUMOBARI_UNSOUND);
     }
-}
-
-static void lengths(void)
-{
-    const chezumobari_sizes s = sizes;
-    const size_t rows[4] = {WORDS, RECORDS, TASKS, CHEZUMOBARI_ENTRY_ROWS(TASKS)};
-
-    /* null is allowed where the length is 0 */
-    REFUSED(chezumobari_open(s, 1, NULL, 0, NULL, 0, NULL, 0, NULL, 0), CHEZUMOBARI_UNSOUND);
-    REFUSED(chezumobari_start(s, NULL, 0, NULL, 0, NULL, 0, NULL, 0, 0), CHEZUMOBARI_UNSOUND);
-    REFUSED(chezumobari_look(s, NULL, 0, NULL, 0, NULL, 0, NULL, 0, 0), CHEZUMOBARI_UNSOUND);
-    for (int i = 0; i < 4; i++) {
-        size_t n[4];
-        memcpy(n, rows, sizeof n);
-        n[i]--; /* one row short */
-#define LENT now.words, n[0], now.records, n[1], now.places, n[2], now.entries, n[3]
-        REFUSED(chezumobari_open(s, 1, LENT), CHEZUMOBARI_UNSOUND);
-        REFUSED(chezumobari_start(s, LENT, 0), CHEZUMOBARI_UNSOUND);
-        REFUSED(chezumobari_read(s, LENT, 0, 0), CHEZUMOBARI_UNSOUND);
-        REFUSED(chezumobari_write(s, LENT, 0, 0, 1), CHEZUMOBARI_UNSOUND);
-        REFUSED(chezumobari_abort(s, LENT, 0), CHEZUMOBARI_UNSOUND);
-        REFUSED(chezumobari_commit(s, LENT, 0), CHEZUMOBARI_UNSOUND);
-        REFUSED(chezumobari_wait(s, LENT, 0), CHEZUMOBARI_UNSOUND);
-        REFUSED(chezumobari_step(s, LENT, 0), CHEZUMOBARI_UNSOUND);
-        REFUSED(chezumobari_look(s, LENT, 0), CHEZUMOBARI_UNSOUND);
-#undef LENT
-    }
-}
-
-static void tasks_and_addresses(void)
-{
-    static const size_t no_task[] = {TASKS, 64, (size_t)1 << 32, SIZE_MAX};
-    static const size_t no_address[] = {WORDS, 4096, (size_t)1 << 32, SIZE_MAX};
-
-    for (size_t i = 0; i < sizeof no_task / sizeof *no_task; i++) {
-        REFUSED(ASK(start, no_task[i]), CHEZUMOBARI_NO_SUCH_TASK);
-        REFUSED(ASK(read, no_task[i], 0), CHEZUMOBARI_NO_SUCH_TASK);
-        REFUSED(ASK(write, no_task[i], 0, 1), CHEZUMOBARI_NO_SUCH_TASK);
-        REFUSED(ASK(abort, no_task[i]), CHEZUMOBARI_NO_SUCH_TASK);
-        REFUSED(ASK(commit, no_task[i]), CHEZUMOBARI_NO_SUCH_TASK);
-        REFUSED(ASK(wait, no_task[i]), CHEZUMOBARI_NO_SUCH_TASK);
-        REFUSED(ASK(step, no_task[i]), CHEZUMOBARI_NO_SUCH_TASK);
-    }
+    sizes = good;
+    requests_refused(beyond, CHEZUMOBARI_NO_SUCH_TASK);
+    requests_refused(SIZE_MAX, CHEZUMOBARI_NO_SUCH_TASK);
     DONE(ASK(start, 0));
-    for (size_t i = 0; i < sizeof no_address / sizeof *no_address; i++) {
-        REFUSED(ASK(read, 0, no_address[i]), CHEZUMOBARI_NO_SUCH_ADDRESS);
-        REFUSED(ASK(write, 0, no_address[i], 1), CHEZUMOBARI_NO_SUCH_ADDRESS);
-        REFUSED(ASK(look, no_address[i]), CHEZUMOBARI_NO_SUCH_ADDRESS);
+    for (size_t address = beyond; address != 0; address = address == beyond ? SIZE_MAX : 0) {
+        REFUSED(ASK(read, 0, address), CHEZUMOBARI_NO_SUCH_ADDRESS);
+        REFUSED(ASK(write, 0, address, 1), CHEZUMOBARI_NO_SUCH_ADDRESS);
+        REFUSED(ASK(look, address), CHEZUMOBARI_NO_SUCH_ADDRESS);
     }
     DONE(ASK(abort, 0));
 }
 
-static void phases_and_limits(void)
-{
-    REFUSED(ASK(read, 0, 0), CHEZUMOBARI_WRONG_PHASE);
-    REFUSED(ASK(write, 0, 0, 1), CHEZUMOBARI_WRONG_PHASE);
-    REFUSED(ASK(abort, 0), CHEZUMOBARI_WRONG_PHASE);
-    REFUSED(ASK(commit, 0), CHEZUMOBARI_WRONG_PHASE);
-    REFUSED(ASK(wait, 0), CHEZUMOBARI_WRONG_PHASE);
-    REFUSED(ASK(step, 0), CHEZUMOBARI_WRONG_PHASE);
-    DONE(ASK(start, 0));
-    REFUSED(ASK(start, 0), CHEZUMOBARI_WRONG_PHASE);
-    REFUSED(ASK(step, 0), CHEZUMOBARI_WRONG_PHASE);
-    REFUSED(ASK(wait, 0), CHEZUMOBARI_NOTHING_TO_SLEEP_ON);
-    for (size_t address = 0; address < CHEZUMOBARI_ENTRIES_PER_TASK; address++)
-        DONE(ASK(read, 0, address));
-    REFUSED(ASK(read, 0, 64), CHEZUMOBARI_FULL);
-    REFUSED(ASK(write, 0, 64, 1), CHEZUMOBARI_FULL);
-    DONE(ASK(abort, 0));
-    DONE(OPEN(CHEZUMOBARI_TOP_VERSION));
-    DONE(ASK(start, 0));
-    REFUSED(ASK(write, 0, 0, 1), CHEZUMOBARI_VERSIONS_USED_UP);
-    DONE(OPEN(1));
-}
-
-/* One wrong number in the tables, and every call is refused. */
+/* One wrong number in the tables, and every request and the look-up are refused. */
 static void damaged(uint32_t *spot, uint32_t value)
 {
     const uint32_t good = *spot;
     *spot = value;
-    all_refused(CHEZUMOBARI_UNSOUND);
+    requests_refused(0, CHEZUMOBARI_UNSOUND);
+    REFUSED(ASK(look, 0), CHEZUMOBARI_UNSOUND);
     *spot = good;
 }
 
-static void contents(void)
+static uint32_t stepped_to_the_end(size_t task)
 {
-    DONE(ASK(start, 1));
-    DONE(ASK(read, 1, 7));
-    DONE(ASK(write, 1, 17, 5)); /* addresses 7 and 17 are on record 7 */
-    damaged(&now.records[3], 0);
-    damaged(&now.records[3], CHEZUMOBARI_FIRST_OWNER + TASKS);
-    damaged(&now.records[3], CHEZUMOBARI_FIRST_OWNER + 1); /* an owner that is only open */
-    damaged(&now.places[1].count, 65);
-    damaged(&now.places[1].phase, 9);
-    damaged(&now.places[1].phase, CHEZUMOBARI_PHASE_IDLE); /* idle with entries */
-    damaged(&now.places[1].position, 1);                   /* open has no position */
-    damaged(&now.entries[64].address, WORDS);
-    damaged(&now.entries[64].address, 17); /* two entries for one address */
-    damaged(&now.entries[64].old_version, 0);
-    damaged(&now.entries[64].new_version, 3);
-    damaged(&now.entries[64].new_version, 1); /* entries on one record disagree */
+    uint32_t number;
+    do
+        number = ASK(step, task).number;
+    while (number == CHEZUMOBARI_DONE);
+    return number;
+}
+
+/* Task 1 has three entries on record 7. The numbers of a row are all different: a field in another's place shows. */
+static void fields(void)
+{
+    const chezumobari_entry *entry = &now.entries[RUN];
+
     DONE(ASK(start, 0));
-    DONE(ASK(abort, 0));
-    DONE(ASK(abort, 1));
+    DONE(ASK(write, 0, 7, 30));
+    DONE(ASK(commit, 0));
+    SAME(stepped_to_the_end(0), CHEZUMOBARI_COMMITTED);
+    SAME(now.words[7], 30);
+    SAME(now.records[7], 2);
+    DONE(ASK(start, 1));
+    DONE(ASK(write, 1, 7, 5));
+    DONE(ASK(read, 1, 17));
+    DONE(ASK(read, 1, 27));
+    SAME(entry->address, 7);
+    SAME(entry->old_value, 30);
+    SAME(entry->new_value, 5);
+    SAME(entry->old_version, 2);
+    SAME(entry->new_version, 3);
+    SAME(ASK(read, 1, 7).value, 5);
+    DONE(ASK(commit, 1));
+    DONE(ASK(step, 1));
+    SAME(now.records[7], CHEZUMOBARI_FIRST_OWNER + 1);
+    SAME(now.places[1].count, 3);
+    SAME(now.places[1].phase, CHEZUMOBARI_PHASE_TAKING_TO_COMMIT);
+    SAME(now.places[1].position, 1);
+    SAME(ASK(look, 7).value, 30);
+    SAME(ASK(look, 7).version, 2);
+}
+
+/* The same board, with one damage for each field. Any value is good, and is shown. */
+static void fields_damaged(void)
+{
+    chezumobari_entry *entry = &now.entries[RUN];
+
+    damaged(&now.records[3], 0);
+    damaged(&now.places[1].count, RUN + 1);
+    damaged(&now.places[1].phase, CHEZUMOBARI_PHASE_IDLE);
+    damaged(&now.places[1].position, 4);
+    damaged(&entry->address, WORDS);
+    damaged(&entry->old_version, 0);
+    damaged(&entry->new_version, 4);
+    entry->old_value = 31;
+    SAME(ASK(look, 7).value, 31);
+    entry->new_value = 6;
+    SAME(stepped_to_the_end(1), CHEZUMOBARI_COMMITTED);
+    SAME(now.words[7], 6);
+}
+
+/* The numbers of the specification, under their names. */
+static void names(void)
+{
+    static const uint32_t answers[] = {
+        CHEZUMOBARI_DONE, CHEZUMOBARI_UNSOUND, CHEZUMOBARI_OUT_OF_RANGE, CHEZUMOBARI_NO_SUCH_TASK,
+        CHEZUMOBARI_WRONG_PHASE, CHEZUMOBARI_NO_SUCH_ADDRESS, CHEZUMOBARI_FULL, CHEZUMOBARI_NOTHING_TO_SLEEP_ON,
+        CHEZUMOBARI_VERSIONS_USED_UP, CHEZUMOBARI_OVERTAKEN,
+    };
+    static const uint32_t of_steps[] = {
+        CHEZUMOBARI_ASLEEP, CHEZUMOBARI_COMMITTED, CHEZUMOBARI_FAILED, CHEZUMOBARI_WOKEN,
+    };
+    static const uint32_t phases[] = {
+        CHEZUMOBARI_PHASE_IDLE, CHEZUMOBARI_PHASE_OPEN, CHEZUMOBARI_PHASE_TAKING_TO_COMMIT,
+        CHEZUMOBARI_PHASE_TAKING_TO_SLEEP, CHEZUMOBARI_PHASE_ASLEEP, CHEZUMOBARI_PHASE_WRITING,
+        CHEZUMOBARI_PHASE_RELEASING_COMMITTED, CHEZUMOBARI_PHASE_RELEASING_FAILED, CHEZUMOBARI_PHASE_RELEASING_WOKEN,
+    };
+
+    for (uint32_t i = 0; i < sizeof answers / sizeof *answers; i++)
+        SAME(answers[i], i);
+    for (uint32_t i = 0; i < sizeof of_steps / sizeof *of_steps; i++)
+        SAME(of_steps[i], 20 + i);
+    for (uint32_t i = 0; i < sizeof phases / sizeof *phases; i++)
+        SAME(phases[i], i);
+    SAME(CHEZUMOBARI_MOST_WORDS, 4096);
+    SAME(CHEZUMOBARI_MOST_RECORDS, 1024);
+    SAME(CHEZUMOBARI_MOST_TASKS, 32);
+    SAME(CHEZUMOBARI_ENTRIES_PER_TASK, 64);
+    SAME(CHEZUMOBARI_TOP_VERSION, 2147483647);
+    SAME(CHEZUMOBARI_FIRST_OWNER, 2147483648);
 }
 
 int main(void)
 {
     DONE(OPEN(1));
-    sizes_and_first_version();
-    lengths();
-    tasks_and_addresses();
-    phases_and_limits();
-    contents();
+    null_tables();
+    lengths_one_short();
+    beyond_32_bits();
+    fields();
+    fields_damaged();
+    names();
     printf("%d answers are as they should be\n", checked);
     return 0;
 }

@@ -1,6 +1,6 @@
 //! Saved boards: what is loaded is what was saved, and damage is refused.
 
-use chezumobari::{Board, End, Label, NotLoaded, Phase, Sizes, Tables};
+use chezumobari::{Board, End, Label, NotLoaded, Phase, Sizes, Tables, ENTRIES_PER_TASK, PLACE_WIDTH};
 
 /// The board of `tests/saved.c`: a label asleep on two words, a transaction that is open, and one that
 /// has decided and written nothing yet.
@@ -73,13 +73,16 @@ fn damage_is_refused() {
 #[test]
 fn what_is_unsound_is_neither_saved_nor_loaded() {
     let board = in_the_middle();
+    let too_many = ENTRIES_PER_TASK as u32 + 1;
     let mut tables = board.tables().clone();
-    tables.places[1] = [65, 1, 0];
+    tables.places[1] = [too_many, 1, 0];
     assert!(Board::from_tables(board.sizes(), tables).save().is_err());
     assert!(Board::from_tables(board.sizes(), Tables::default()).save().is_err());
 
     let mut forged = board.save().unwrap();
-    forged[24 + 4 * (6 + 5 + 3)] = 65; // the second task's count
+    let Sizes { words, records, .. } = board.sizes();
+    let count = 24 + 4 * (words + records + PLACE_WIDTH); // the second task's
+    forged[count..][..4].copy_from_slice(&too_many.to_le_bytes());
     let body = forged.len() - 8;
     let sum = forged[..body]
         .iter()

@@ -54,7 +54,7 @@ PRETENDED_RT = """#!/bin/sh
 echo begin >>"$PRETENDED/log"
 sleep "${PAUSE:-0}"
 echo "rt: memory proved (unchanged since it was last proved)"
-echo "rt: text proved (3 s)"
+echo "rt: session_text proved (3 s)"
 [ -z "${BREAK:-}" ] || { echo "rt: player NOT PROVED"; echo end >>"$PRETENDED/log"; exit 1; }
 echo "rt: player proved (4 s)"
 echo end >>"$PRETENDED/log"
@@ -71,7 +71,7 @@ def pretend(room):
     """A repository of its own whose rt proves nothing. Answers it and the environment."""
     top = room / "pretended"
     shutil.copytree(TOP / "tools", top / "tools")
-    (top / "crates.txt").write_text("memory:\ntext:  # no needs\nplayer: memory text io\nother: memory\n")
+    (top / "crates.txt").write_text("memory:\nsession_text:  # no needs\nplayer: memory session_text io\nother: memory\n")
     script(top / "bin/rt", PRETENDED_RT)
     script(top / "bin/uname", '#!/bin/sh\necho "${MACHINE:-x86_64}"\n')
     script(top / "target/bin/player", "#!/bin/sh\ncat >/dev/null\necho 0 0 0\n")
@@ -83,7 +83,7 @@ def pretend(room):
 def progress(top, env):
     ended, printed, said = run(["tools/play", "crates.txt"], cwd=top, env=env)
     announced = "tools/play: proving: 2 of 3 crates are left"
-    lines = [announced, "tools/play: text proved (3 s), 1 left", "tools/play: player proved (4 s), 0 left"]
+    lines = [announced, "tools/play: session_text proved (3 s), 1 left", "tools/play: player proved (4 s), 0 left"]
     same("progress", (ended, printed, said), (0, ["0 0 0"], lines))
     arm = run(["tools/play", "crates.txt"], cwd=top, env={**env, "MACHINE": "aarch64"})
     same("tools/play on Arm, pretended", (arm[0], arm[1]), (0, ["emulated", "0 0 0"]))

@@ -56,7 +56,7 @@ mod turns;
 pub use board::{Board, Phase, Seen, Task};
 pub use numbers::{Outcome, Progress, Refusal};
 pub use saved::NotLoaded;
-pub use tables::{Answer, Looked, Sizes, Tables};
+pub use tables::{Answer, EntryRow, Looked, PlaceRow, Sizes, Tables};
 pub use tasks::{pass, rest, Scheduler, Shared, Spanning};
 pub use turns::{End, Ended, Label, Longest, Open, Stepped, Turn};
 
@@ -70,6 +70,10 @@ pub const MOST_RECORDS: usize = 1024;
 pub const MOST_TASKS: usize = 32;
 /// A transaction has at most this many entries.
 pub const ENTRIES_PER_TASK: usize = 64;
+/// A task's row has this many numbers.
+pub const PLACE_WIDTH: usize = 3;
+/// An entry's row has this many numbers.
+pub const ENTRY_WIDTH: usize = 5;
 /// Versions go from 1 to this number.
 pub const TOP_VERSION: u32 = 2_147_483_647;
 /// A record's number from here on is an owner's: this number plus the task.

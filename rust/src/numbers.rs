@@ -1,5 +1,6 @@
 //! The numbers that the library answers, as Rust types.
 
+use crate::ENTRIES_PER_TASK;
 use std::error::Error;
 use std::fmt;
 
@@ -18,7 +19,7 @@ pub enum Refusal {
     WrongPhase,
     /// The address is not below the number of words.
     NoSuchAddress,
-    /// A new address, and the transaction already has 64.
+    /// A new address, and the transaction already has [`ENTRIES_PER_TASK`].
     Full,
     /// Wait with no entries: there is nothing to sleep on.
     NothingToSleepOn,
@@ -71,12 +72,12 @@ impl fmt::Display for Refusal {
     fn fmt(&self, f: &mut fmt::Formatter<'_>) -> fmt::Result {
         let text = match self {
             Refusal::Unknown(number) => return write!(f, "the library answered {number}, which is not known here"),
+            Refusal::Full => return write!(f, "the transaction has {ENTRIES_PER_TASK} addresses already"),
             Refusal::Unsound => "the tables are unsound",
             Refusal::OutOfRange => "a size or the first version is out of range",
             Refusal::NoSuchTask => "there is no task with this number",
             Refusal::WrongPhase => "the task's phase does not allow this request",
             Refusal::NoSuchAddress => "there is no word at this address",
-            Refusal::Full => "the transaction has 64 addresses already",
             Refusal::NothingToSleepOn => "the transaction has no address to sleep on",
             Refusal::VersionsUsedUp => "the record has the highest version already",
             Refusal::Overtaken => "overtaken: the record has changed, and the transaction has ended",

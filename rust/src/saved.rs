@@ -4,13 +4,14 @@
 //! - the eight letters `chezumob`;
 //! - the version of the format, 32 bits, which is 1;
 //! - how many words, records and tasks, 32 bits each;
-//! - every word, every record, every task's place (3 numbers), and every entry (5 numbers, 64 entries
-//!   for each task), 32 bits each;
+//! - every word, every record, every task's row and every entry's, as [`Tables`] has them, number by
+//!   number, 32 bits each;
 //! - a checksum of all bytes before it, 64 bits: FNV-1a.
 //!
 //! `include/chezumobari_saved.h` reads and writes the same bytes.
 
-use crate::{Board, Refusal, Sizes, Tables, ENTRIES_PER_TASK, MOST_RECORDS, MOST_TASKS, MOST_WORDS};
+use crate::{Board, Refusal, Sizes, Tables};
+use crate::{ENTRIES_PER_TASK, ENTRY_WIDTH, MOST_RECORDS, MOST_TASKS, MOST_WORDS, PLACE_WIDTH};
 use std::error::Error;
 use std::fmt;
 
@@ -68,7 +69,7 @@ impl Numbers<'_> {
 }
 
 fn numbers_in(sizes: Sizes) -> usize {
-    sizes.words + sizes.records + 3 * sizes.tasks + 5 * ENTRIES_PER_TASK * sizes.tasks
+    sizes.words + sizes.records + sizes.tasks * (PLACE_WIDTH + ENTRIES_PER_TASK * ENTRY_WIDTH)
 }
 
 impl Board {

@@ -1,6 +1,6 @@
 //! The four tables, and each call of the library over them.
 
-use crate::{ENTRIES_PER_TASK, MOST_RECORDS, MOST_TASKS, MOST_WORDS};
+use crate::{ENTRIES_PER_TASK, ENTRY_WIDTH, MOST_RECORDS, MOST_TASKS, MOST_WORDS, PLACE_WIDTH};
 
 /// The sizes of a board.
 #[derive(Clone, Copy, Debug, PartialEq, Eq, Hash)]
@@ -42,6 +42,12 @@ pub struct Looked {
     pub version: u32,
 }
 
+/// A task's row: number of entries, phase code, position.
+pub type PlaceRow = [u32; PLACE_WIDTH];
+
+/// An entry's row: address, old value, new value, old version, new version.
+pub type EntryRow = [u32; ENTRY_WIDTH];
+
 /// The four tables as plain numbers, open to everyone.
 ///
 /// This is the raw layer under [`Board`](crate::Board): each method is one call of the library and
@@ -54,10 +60,10 @@ pub struct Tables {
     pub words: Vec<u32>,
     /// A version, or 2,147,483,648 plus the owning task.
     pub records: Vec<u32>,
-    /// For each task: number of entries, phase code, position.
-    pub places: Vec<[u32; 3]>,
-    /// 64 rows for each task: address, old value, new value, old version, new version.
-    pub entries: Vec<[u32; 5]>,
+    /// A row for each task.
+    pub places: Vec<PlaceRow>,
+    /// [`ENTRIES_PER_TASK`] rows for each task.
+    pub entries: Vec<EntryRow>,
 }
 
 impl Tables {
@@ -70,8 +76,8 @@ impl Tables {
         Tables {
             words: vec![0; sizes.words],
             records: vec![0; sizes.records],
-            places: vec![[0; 3]; sizes.tasks],
-            entries: vec![[0; 5]; sizes.tasks * ENTRIES_PER_TASK],
+            places: vec![[0; PLACE_WIDTH]; sizes.tasks],
+            entries: vec![[0; ENTRY_WIDTH]; sizes.tasks * ENTRIES_PER_TASK],
         }
     }
 }
@@ -83,60 +89,60 @@ impl Tables {
 
 #[rustfmt::skip]
 mod library {
-    use super::{Answer, Looked, Sizes};
+    use super::{Answer, EntryRow, Looked, PlaceRow, Sizes};
 
     extern "C" {
         pub fn chezumobari_open(
             sizes: Sizes, first: u32,
             words: *mut u32, words_length: usize, records: *mut u32, records_length: usize,
-            places: *mut [u32; 3], places_length: usize, entries: *mut [u32; 5], entries_length: usize,
+            places: *mut PlaceRow, places_length: usize, entries: *mut EntryRow, entries_length: usize,
         ) -> Answer;
         pub fn chezumobari_start(
             sizes: Sizes,
             words: *const u32, words_length: usize, records: *const u32, records_length: usize,
-            places: *mut [u32; 3], places_length: usize, entries: *const [u32; 5], entries_length: usize,
+            places: *mut PlaceRow, places_length: usize, entries: *const EntryRow, entries_length: usize,
             task: usize,
         ) -> Answer;
         pub fn chezumobari_abort(
             sizes: Sizes,
             words: *const u32, words_length: usize, records: *const u32, records_length: usize,
-            places: *mut [u32; 3], places_length: usize, entries: *const [u32; 5], entries_length: usize,
+            places: *mut PlaceRow, places_length: usize, entries: *const EntryRow, entries_length: usize,
             task: usize,
         ) -> Answer;
         pub fn chezumobari_commit(
             sizes: Sizes,
             words: *const u32, words_length: usize, records: *const u32, records_length: usize,
-            places: *mut [u32; 3], places_length: usize, entries: *const [u32; 5], entries_length: usize,
+            places: *mut PlaceRow, places_length: usize, entries: *const EntryRow, entries_length: usize,
             task: usize,
         ) -> Answer;
         pub fn chezumobari_wait(
             sizes: Sizes,
             words: *const u32, words_length: usize, records: *const u32, records_length: usize,
-            places: *mut [u32; 3], places_length: usize, entries: *const [u32; 5], entries_length: usize,
+            places: *mut PlaceRow, places_length: usize, entries: *const EntryRow, entries_length: usize,
             task: usize,
         ) -> Answer;
         pub fn chezumobari_read(
             sizes: Sizes,
             words: *const u32, words_length: usize, records: *const u32, records_length: usize,
-            places: *mut [u32; 3], places_length: usize, entries: *mut [u32; 5], entries_length: usize,
+            places: *mut PlaceRow, places_length: usize, entries: *mut EntryRow, entries_length: usize,
             task: usize, address: usize,
         ) -> Answer;
         pub fn chezumobari_write(
             sizes: Sizes,
             words: *const u32, words_length: usize, records: *const u32, records_length: usize,
-            places: *mut [u32; 3], places_length: usize, entries: *mut [u32; 5], entries_length: usize,
+            places: *mut PlaceRow, places_length: usize, entries: *mut EntryRow, entries_length: usize,
             task: usize, address: usize, value: u32,
         ) -> Answer;
         pub fn chezumobari_step(
             sizes: Sizes,
             words: *mut u32, words_length: usize, records: *mut u32, records_length: usize,
-            places: *mut [u32; 3], places_length: usize, entries: *const [u32; 5], entries_length: usize,
+            places: *mut PlaceRow, places_length: usize, entries: *const EntryRow, entries_length: usize,
             task: usize,
         ) -> Answer;
         pub fn chezumobari_look(
             sizes: Sizes,
             words: *const u32, words_length: usize, records: *const u32, records_length: usize,
-            places: *const [u32; 3], places_length: usize, entries: *const [u32; 5], entries_length: usize,
+            places: *const PlaceRow, places_length: usize, entries: *const EntryRow, entries_length: usize,
             address: usize,
         ) -> Looked;
     }

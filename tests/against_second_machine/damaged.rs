@@ -1,4 +1,7 @@
-//! Tables of any content and length. The second machine reads them in anew for each call.
+//! Tables of any content and length, and any sizes, at random. The second machine reads them in anew for each call.
+//!
+//! Each limit, each length and each clause of the check by itself is a case of `crates/try_limits/stdin`. What only C can
+//! show, such as sizes beyond 32 bits, is tried by `tests/refusals.c`.
 
 use crate::random::Random;
 use crate::requests::{some_request, some_task, Met};
@@ -47,36 +50,25 @@ fn damage(random: &mut Random, sizes: Sizes, tables: &mut Tables) {
     *spot = edge(random, sizes, *spot);
 }
 
-fn wrong_length(random: &mut Random, tables: &mut Tables) {
-    match random.below(8) {
-        0 => tables.words.push(0),
-        1 => drop(tables.words.pop()),
-        2 => tables.records.push(1),
-        3 => drop(tables.records.pop()),
-        4 => tables.places.push([0; 3]),
-        5 => drop(tables.places.pop()),
-        6 => tables.entries.push([0; 5]),
-        _ => tables.entries.clear(),
+/// One table gets any length.
+fn another_length(random: &mut Random, tables: &mut Tables) {
+    match random.below(4) {
+        0 => tables.words.resize(random.below(12), 0),
+        1 => tables.records.resize(random.below(8), 1),
+        2 => tables.places.resize(random.below(6), [0; 3]),
+        _ => tables.entries.resize(random.below(320), [0; 5]),
     }
 }
 
-fn wrong_sizes(random: &mut Random, sizes: &mut Sizes) {
+/// One size becomes any number.
+fn another_size(random: &mut Random, sizes: &mut Sizes) {
+    let most = random.one_of(&[8, 80, 8000]);
     let spot = match random.below(3) {
         0 => &mut sizes.words,
         1 => &mut sizes.records,
         _ => &mut sizes.tasks,
     };
-    *spot = match random.below(9) {
-        0 => 0,
-        1 => 33,
-        2 => 1025,
-        3 => 4097,
-        4 => usize::MAX,
-        5 => usize::MAX / 64 + 1,
-        6 => *spot + (1 << 32),
-        7 => *spot + 1,
-        _ => *spot - 1,
-    };
+    *spot = random.below(most);
 }
 
 /// One call on tables of any content. The second machine reads them in anew for it.
@@ -84,7 +76,7 @@ fn one_call(random: &mut Random, sizes: Sizes, tables: &mut Tables, met: &mut Me
     let mut expected = tables.clone();
     let loaded = load(sizes, &expected);
     if random.once_in(30) {
-        let first = random.one_of(&[0, 1, 5, TOP_VERSION, TOP_VERSION + 1]);
+        let first = edge(random, sizes, 1);
         assert_eq!(tables.open(sizes, first), Answer { number: open(sizes, first, &mut expected), value: 0 });
         assert_eq!(*tables, expected);
         return;
@@ -164,20 +156,20 @@ fn ten_million_damaged_tables() {
 }
 
 #[test]
-fn wrong_lengths_and_sizes() {
+fn any_lengths_and_sizes() {
     let mut random = Random::from_seed(5);
     let mut met = Met::default();
     for _ in 0..20_000 {
-        let mut sizes = Sizes { words: 1 + random.below(6), records: 1 + random.below(4), tasks: 1 + random.below(3) };
+        let mut sizes = small_sizes(&mut random);
         let mut tables = Tables::for_sizes(sizes);
         assert_eq!(tables.open(sizes, 1).number, 0);
         for _ in 0..random.below(12) {
             one_call(&mut random, sizes, &mut tables, &mut met);
         }
         if random.once_in(2) {
-            wrong_length(&mut random, &mut tables);
+            another_length(&mut random, &mut tables);
         } else {
-            wrong_sizes(&mut random, &mut sizes);
+            another_size(&mut random, &mut sizes);
         }
         for _ in 0..3 {
             one_call(&mut random, sizes, &mut tables, &mut met);

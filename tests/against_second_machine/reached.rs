@@ -75,7 +75,7 @@ fn a_few_long_schedules() {
 }
 
 #[test]
-fn transactions_of_up_to_64_addresses() {
+fn transactions_up_to_the_last_address() {
     let mut random = Random::from_seed(3);
     let mut met = Met::default();
     let sizes = Sizes { words: 200, records: 50, tasks: 3 };

@@ -7,8 +7,17 @@
 mod steps;
 pub mod tables;
 
+// The specification's limits and widths, written here by hand and not taken from the package, so that a
+// wrong one there shows.
 pub const TOP_VERSION: u32 = 0x7fff_ffff;
+const MOST_WORDS: usize = 4096;
+const MOST_RECORDS: usize = 1024;
+const MOST_TASKS: usize = 32;
+/// Rows of the entry table that are one task's.
 pub const RUN: usize = 64;
+/// Numbers in a task's row, and in an entry's.
+const PLACE_WIDTH: usize = 3;
+const ENTRY_WIDTH: usize = 5;
 
 #[derive(Clone, Copy, Debug, PartialEq, Eq)]
 pub enum Record {

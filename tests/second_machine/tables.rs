@@ -1,11 +1,14 @@
 //! The second machine's state, read from the four tables and written to them.
 
-use super::{End, Goal, Machine, Mark, Phase, Record, Request, Task, Use, RUN, TOP_VERSION};
+use super::{End, Goal, Machine, Mark, Phase, Record, Request, Task, Use};
+use super::{ENTRY_WIDTH, MOST_RECORDS, MOST_TASKS, MOST_WORDS, PLACE_WIDTH, RUN, TOP_VERSION};
 use chezumobari::{Answer, Sizes, Tables};
 use std::collections::{HashMap, HashSet};
 
 fn sizes_are_in_range(sizes: Sizes) -> bool {
-    (1..=4096).contains(&sizes.words) && (1..=1024).contains(&sizes.records) && (1..=32).contains(&sizes.tasks)
+    (1..=MOST_WORDS).contains(&sizes.words)
+        && (1..=MOST_RECORDS).contains(&sizes.records)
+        && (1..=MOST_TASKS).contains(&sizes.tasks)
 }
 
 fn lengths_fit(sizes: Sizes, tables: &Tables) -> bool {
@@ -37,7 +40,7 @@ pub fn open(sizes: Sizes, first: u32, tables: &mut Tables) -> u32 {
         return 1;
     }
     for row in &mut tables.entries {
-        *row = [0; 5];
+        *row = [0; ENTRY_WIDTH];
     }
     store(&Machine::opened(sizes.words, sizes.records, sizes.tasks, first), tables);
     0
@@ -73,7 +76,7 @@ fn load_phase(code: u32, at: usize) -> Option<Phase> {
     (at == 0 || !has_no_position).then_some(phase)
 }
 
-fn load_task(sizes: Sizes, place: [u32; 3], run: &[[u32; 5]]) -> Option<Task> {
+fn load_task(sizes: Sizes, place: [u32; PLACE_WIDTH], run: &[[u32; ENTRY_WIDTH]]) -> Option<Task> {
     let (count, position) = (place[0] as usize, place[2] as usize);
     let phase = load_phase(place[1], position)?;
     if count > RUN || position > count || (phase == Phase::Idle && count > 0) {

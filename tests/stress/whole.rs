@@ -173,7 +173,8 @@ pub fn anything(games: u64) -> Tally {
     tally
 }
 
-/// The largest tables, 31 sleepers with 64 entries each, and a trade of 64 words that meets them all.
+/// The largest tables, all tasks but one asleep with all the entries that they may have, and a trade of as
+/// many words that meets them all.
 pub fn full_board(games: u64) -> Tally {
     let mut all = Checked::open(4096, 1024, MOST_TASKS, 1);
     let words_of = |label: usize| -> Vec<usize> {
@@ -182,6 +183,7 @@ pub fn full_board(games: u64) -> Tally {
     let mut trade: Vec<usize> = (1..MOST_TASKS).collect();
     trade.extend((1..MOST_TASKS).map(|label| label + 1024));
     trade.extend([2048, 3072]);
+    assert_eq!(trade.len(), ENTRIES_PER_TASK);
     for _ in 0..games {
         for label in 1..MOST_TASKS {
             if all.is_idle(label) {
