@@ -6,7 +6,9 @@ ghost use Rattle.memory.specs.Numbers.{replied};
 ghost use Rattle.memory.specs.Requests as spec;
 ghost use Rattle.memory.specs.Step.{step};
 use memory::Answer;
+use memory::EntryRow;
 use memory::Looked;
+use memory::PlaceRow;
 use memory::Sizes;
 
 // §5.1 to §5.4: a board is opened.
@@ -16,8 +18,8 @@ pub extern "C" fn chezumobari_open(
     first: u32,
     words: &mut [u32],
     records: &mut [u32],
-    places: &mut [[u32; 3]],
-    entries: &mut [[u32; 5]],
+    places: &mut [PlaceRow],
+    entries: &mut [EntryRow],
 ) -> Answer
     ensures { λ r. ⌜ replied r (memory (now (words .exit)) (now (records .exit)) (now (places .exit)) (now (entries .exit)))
         ≡ spec.openBoard sizes first (memory (now (words .entry)) (now (records .entry)) (now (places .entry)) (now (entries .entry))) ⌝ }
@@ -31,8 +33,8 @@ pub extern "C" fn chezumobari_start(
     sizes: Sizes,
     words: &[u32],
     records: &[u32],
-    places: &mut [[u32; 3]],
-    entries: &[[u32; 5]],
+    places: &mut [PlaceRow],
+    entries: &[EntryRow],
     task: usize,
 ) -> Answer
     ensures { λ r. ⌜ replied r (memory (now (words .entry)) (now (records .entry)) (now (places .exit)) (now (entries .entry)))
@@ -47,8 +49,8 @@ pub extern "C" fn chezumobari_abort(
     sizes: Sizes,
     words: &[u32],
     records: &[u32],
-    places: &mut [[u32; 3]],
-    entries: &[[u32; 5]],
+    places: &mut [PlaceRow],
+    entries: &[EntryRow],
     task: usize,
 ) -> Answer
     ensures { λ r. ⌜ replied r (memory (now (words .entry)) (now (records .entry)) (now (places .exit)) (now (entries .entry)))
@@ -63,8 +65,8 @@ pub extern "C" fn chezumobari_commit(
     sizes: Sizes,
     words: &[u32],
     records: &[u32],
-    places: &mut [[u32; 3]],
-    entries: &[[u32; 5]],
+    places: &mut [PlaceRow],
+    entries: &[EntryRow],
     task: usize,
 ) -> Answer
     ensures { λ r. ⌜ replied r (memory (now (words .entry)) (now (records .entry)) (now (places .exit)) (now (entries .entry)))
@@ -79,8 +81,8 @@ pub extern "C" fn chezumobari_wait(
     sizes: Sizes,
     words: &[u32],
     records: &[u32],
-    places: &mut [[u32; 3]],
-    entries: &[[u32; 5]],
+    places: &mut [PlaceRow],
+    entries: &[EntryRow],
     task: usize,
 ) -> Answer
     ensures { λ r. ⌜ replied r (memory (now (words .entry)) (now (records .entry)) (now (places .exit)) (now (entries .entry)))
@@ -95,8 +97,8 @@ pub extern "C" fn chezumobari_read(
     sizes: Sizes,
     words: &[u32],
     records: &[u32],
-    places: &mut [[u32; 3]],
-    entries: &mut [[u32; 5]],
+    places: &mut [PlaceRow],
+    entries: &mut [EntryRow],
     task: usize,
     address: usize,
 ) -> Answer
@@ -112,8 +114,8 @@ pub extern "C" fn chezumobari_write(
     sizes: Sizes,
     words: &[u32],
     records: &[u32],
-    places: &mut [[u32; 3]],
-    entries: &mut [[u32; 5]],
+    places: &mut [PlaceRow],
+    entries: &mut [EntryRow],
     task: usize,
     address: usize,
     value: u32,
@@ -130,8 +132,8 @@ pub extern "C" fn chezumobari_step(
     sizes: Sizes,
     words: &mut [u32],
     records: &mut [u32],
-    places: &mut [[u32; 3]],
-    entries: &[[u32; 5]],
+    places: &mut [PlaceRow],
+    entries: &[EntryRow],
     task: usize,
 ) -> Answer
     ensures { λ r. ⌜ replied r (memory (now (words .exit)) (now (records .exit)) (now (places .exit)) (now (entries .entry)))
@@ -146,8 +148,8 @@ pub extern "C" fn chezumobari_look(
     sizes: Sizes,
     words: &[u32],
     records: &[u32],
-    places: &[[u32; 3]],
-    entries: &[[u32; 5]],
+    places: &[PlaceRow],
+    entries: &[EntryRow],
     address: usize,
 ) -> Looked
     ensures { λ r. ⌜ r ≡ spec.look sizes (memory (now (words .entry)) (now (records .entry)) (now (places .entry)) (now (entries .entry))) address ⌝ }

@@ -13,6 +13,7 @@ use Rattle.memory.specs.{Sizes, Open, Place, Seen, Entry, Memory, memory
 use Rattle.memory.specs.Effects.{Goes}
 use Rattle.memory.proofs.Tools.{both, same?, everywhere}
 use Rattle.memory.proofs.Find.{find?}
+use Rattle.memory.proofs.Limits.{in-run}
 use Rattle.memory.proofs.Stores.{run-at}
 use Rattle.memory.proofs.Facts.{places-length, entries-length, entries-count, row-held}
 
@@ -59,19 +60,6 @@ one-written n a v e x y p q =
     (⊎-elim (λ s. p .version s ∙ sym (q .version s)) (λ s. p .other-version s ∙ sym (q .other-version s)) (same? (e .address % n) (a % n)))
 
 -- Tables -------------------------------------------------------------------------------------------------------------------------------
-
--- every place of the entry table is one of a run
-in-run : (z : Sizes) (k : ℕ) → (u : ℕ) × (i : ℕ) × (i < limit z) × (k ≡ runStart z u + i)
-unfolding runStart limit
-in-run z zero = (0, 0, omega arith, omega arith)
-in-run z (suc k) = go (in-run z k)
-  where
-    go : (u : ℕ) × (i : ℕ) × (i < limit z) × (k ≡ runStart z u + i) → (u : ℕ) × (i : ℕ) × (i < limit z) × (suc k ≡ runStart z u + i)
-    go (u, i, h, q) = more (both (ltb (suc i) (limit z)))
-      where
-        more : (ltb (suc i) (limit z) ≡ true) ⊎ (ltb (suc i) (limit z) ≡ false) → (u : ℕ) × (i : ℕ) × (i < limit z) × (suc k ≡ runStart z u + i)
-        more (inl d) = (u, suc i, ltb-true _ _ d, omega (arith, q))
-        more (inr d) = (suc u, 0, omega arith, omega (arith, q, h, ltb-false (suc i) (limit z) d))
 
 module _ (z : Sizes) (m₁ m₂ : Memory) (ok₁ : sound z m₁ ≡ true) (ok₂ : sound z m₂ ≡ true) where
   -- sound tables with the same places have the same rows for them

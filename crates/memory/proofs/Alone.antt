@@ -4,7 +4,7 @@ use mathlib.Core.Path.{_≡_, _∙_, subst, subst⁻¹}
 use mathlib.Core.Bool.{true}
 use lib.ListN.{length, replicate}
 use native.Mathlib.Omega.{arith}
-use Rattle.memory.specs.{Sizes, Commit, Committed, Idle, Taking, Writing, Releasing, Memory, place, entry, entries, bare, sound, SP, numbers, phase, thenAnswers, AloneItCommits, ours}
+use Rattle.memory.specs.{Sizes, Commit, Committed, Taking, Writing, Releasing, Memory, place, entry, entries, bare, ended, sound, SP, numbers, phase, thenAnswers, AloneItCommits, ours}
 use Rattle.memory.proofs.Codes.{count-of, phase-of}
 use Rattle.memory.proofs.Facts.{entries-count}
 use Rattle.memory.proofs.Fresh.{entry-in}
@@ -19,14 +19,14 @@ module _ (z : Sizes) (t : ℕ) (lt : t < z .tasks) (c : Memory) where
 
   -- at the end: Idle, and every other task in the place where it was
   abbrev pub Over : Memory → Type 0
-  Over m = Stands z t lt c m (bare 0 Idle)
+  Over m = Stands z t lt c m ended
 
   lets-go-then : (m : Memory) → Stands z t lt c m (bare n (Releasing Committed 0)) → Reaches z t m n 21 Over
   lets-go-then m S =
       subst (λ (k : ℕ). Reaches z t m k 21 Over) (count-of (S .own))
       (reaches z t m 21 Over _ over _ (lets-go z t lt Committed m (S .ok) (phase-of (S .own))))
     where
-      over : (m′ : Memory) → LetGo z t lt Committed m (S .ok) m′ (bare 0 Idle) → Over m′
+      over : (m′ : Memory) → LetGo z t lt Committed m (S .ok) m′ ended → Over m′
       over m′ L =
           let E = L .standing in
           record { ok = E .ok; own = E .own; others = λ u ne. E .others u ne ∙ S .others u ne; entries = E .entries ∙ S .entries }

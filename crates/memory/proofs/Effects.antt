@@ -8,7 +8,7 @@ use lib.Dec.{eqb}
 use lib.ListN.{length, length-replicate}
 use native.Mathlib.Omega.{arith}
 use borrow.Author.Tests.{eq-eqb, ne-eqb}
-use Rattle.memory.specs.{if_then_else_, Sizes, Commit, Sleep, Phase, Idle, Open, Taking, Place, Entry, Memory, isIdle, isOpen, place, moved, bare, entries, run, runStart, limit, setPlace, move, topVersion, indexOf, logical, sound, Reply, start, abort, commit, wait, fresh, known, added, overtaken, opened, rowOf, rowOfEntry, blank, read, written, rewrite, store, write, ST, CM, AB, WT, SP, RD, WR, call, ours, _∈_, phase, OnRecord, Fresh, Entered, Written, RequestsLeave, Opened, OpeningLeaves}
+use Rattle.memory.specs.{if_then_else_, Sizes, Commit, Sleep, Phase, Open, Taking, Place, Entry, Memory, isIdle, isOpen, place, moved, bare, ended, entries, run, runStart, limit, setPlace, move, topVersion, indexOf, logical, sound, Reply, start, abort, commit, wait, fresh, known, added, overtaken, opened, rowOf, rowOfEntry, blank, read, written, rewrite, store, write, ST, CM, AB, WT, SP, RD, WR, call, ours, _∈_, phase, OnRecord, Fresh, Entered, Written, RequestsLeave, Opened, OpeningLeaves}
 use Rattle.memory.specs.Effects.{Goes, Leaves}
 use Rattle.memory.proofs.SoundLasts.{opened-idle}
 use Rattle.memory.proofs.Tools.{if-cases}
@@ -85,7 +85,7 @@ module _ (z : Sizes) (m : Memory) (t : ℕ) where
         × (es : List Entry) × Entered z m t a es × (f : Entry → Entry) × ((e : Entry) → Written (z .records) a v e (f e)) × (entries z (r .after) t ≡ map f es)
 
     abbrev Answered : Reply → Type 0
-    Answered r = (r .number ≡ 9 → Goes m t (r .after) (bare 0 Idle)) × Stored r
+    Answered r = (r .number ≡ 9 → Goes m t (r .after) ended) × Stored r
 
     stored : (with-it : Memory) (n : ℕ) (e : Entry) → phase with-it t ≡ Open → n ≡ place with-it t .count → runStart z t + n ≤ length (with-it .entries)
         → Entered z m t a (run z with-it t n) → Answered (store z m with-it t a v n e)
@@ -110,13 +110,13 @@ pub requests-leave : RequestsLeave ours
 unfolding call start abort commit wait read write
 requests-leave z m (ST t) = asked-cases z m t isIdle _ (Leaves z m (ST t)) (no-refusal 0 refl) (λ ok lt c x. set-to z m t ok lt (bare 0 Open))
 requests-leave z m (CM t) = asked-cases z m t isOpen _ (Leaves z m (CM t)) (no-refusal 0 refl) (λ ok lt c x. moves-to z m t ok lt (Taking Commit 0))
-requests-leave z m (AB t) = asked-cases z m t isOpen _ (Leaves z m (AB t)) (no-refusal 0 refl) (λ ok lt c x. set-to z m t ok lt (bare 0 Idle))
+requests-leave z m (AB t) = asked-cases z m t isOpen _ (Leaves z m (AB t)) (no-refusal 0 refl) (λ ok lt c x. set-to z m t ok lt ended)
 requests-leave z m (WT t) = asked-cases z m t isOpen _ (Leaves z m (WT t)) (no-refusal 0 refl) (λ ok lt c.
     if-cases (Leaves z m (WT t)) (eqb (place m t .count) 0) _ _ (λ d x. absurd (omega (arith, x))) (λ d x. moves-to z m t ok lt (Taking Sleep 0)))
 requests-leave z m (SP t) = tt
 requests-leave z m (RD t a) =
     addressed-cases z m t a _ _ (Leaves z m (RD t a)) (λ n k. (no-refusal 9 refl n k, no-refusal 0 refl n k))
-    (λ ok lt op. (λ x. set-to z m t ok lt (bare 0 Idle), λ x. absurd (omega (arith, x))))
+    (λ ok lt op. (λ x. set-to z m t ok lt ended, λ x. absurd (omega (arith, x))))
     (λ ok lt op w k. (λ x. absurd (omega (arith, x)), λ x. (op, entered-known z m t ok lt a k)))
     (λ ok lt op w k room o. (
       λ x. absurd (omega (arith, x)),
@@ -127,7 +127,7 @@ requests-leave z m (RD t a) =
     ))
 requests-leave z m (WR t a v) =
     addressed-cases z m t a _ _ (Leaves z m (WR t a v)) (λ n k. (no-refusal 9 refl n k, no-refusal 0 refl n k))
-    (λ ok lt op. (λ x. set-to z m t ok lt (bare 0 Idle), λ x. absurd (omega (arith, x))))
+    (λ ok lt op. (λ x. set-to z m t ok lt ended, λ x. absurd (omega (arith, x))))
     (λ ok lt op w k. stored z m t a v m (place m t .count) (known z m t a) op refl (run-fits z m ok t lt) (entered-known z m t ok lt a k))
     (λ ok lt op w k room o. stored z m t a v (added z m t a) (suc (place m t .count)) (fresh z m t a) (phase-of (added-place z m ok t lt a) ∙ op)
     (sym (count-of (added-place z m ok t lt a))) (added-fits z m ok t lt a room) (entered-new z m t ok lt a k room o))
@@ -138,7 +138,7 @@ opened-so z v =
     record {
       words = refl;
       records = refl;
-      places = length-replicate (z .tasks) (rowOf (bare 0 Idle));
+      places = length-replicate (z .tasks) (rowOf ended);
       idle = opened-idle z v;
       entries = unfold rowOfEntry blank in refl;
     }

@@ -5,7 +5,7 @@ use mathlib.Core.Path.{_≡_, refl, sym, ap, _∙_, subst}
 use mathlib.Core.Logic.{inl, inr, _≢_, ⊎-elim}
 use mathlib.Core.Bool.{true}
 use native.Mathlib.Omega.{arith}
-use Rattle.memory.specs.{Sizes, Commit, Failed, Idle, Taking, Place, Version, Owner, Entry, Memory, place, entry, held, bare, moved, sound, SP, call, phase, struck, Clash}
+use Rattle.memory.specs.{Sizes, Commit, Failed, Taking, Place, Version, Owner, Entry, Memory, place, entry, held, ended, moved, sound, SP, call, phase, struck, Clash}
 use Rattle.memory.proofs.Codes.{not-owner, count-of, phase-of}
 use Rattle.memory.proofs.Stores.{held-from, entry-from}
 use Rattle.memory.proofs.Facts.{owner-entry}
@@ -18,7 +18,7 @@ use Rattle.memory.proofs.Takes.{Free, Taken, Took, takes-then}
 
 -- against the table at the beginning
 pub record Fell (z : Sizes) (c : Memory) (t u : ℕ) (m : Memory) : Type 0 where
-  pub own : place m t ≡ bare 0 Idle
+  pub own : place m t ≡ ended
   pub struck-one : place m u ≡ moved (place c u) (struck (phase c u))
   pub others : (w : ℕ) → w ≢ t → w ≢ u → place m w ≡ place c w
   pub words : m .words ≡ c .words
@@ -57,7 +57,7 @@ module _ (z : Sizes) (t : ℕ) (lt : t < z .tasks) (c : Memory) (ok : sound z c 
     count-d : place d t .count ≡ n
     count-d = count-of (clashed .comer) ∙ count-of (T .standing .own)
 
-    fell : (m′ : Memory) → LetGo z t lt Failed d okd m′ (bare 0 Idle) → Fell z c t u m′
+    fell : (m′ : Memory) → LetGo z t lt Failed d okd m′ ended → Fell z c t u m′
     fell m′ L =
         record {
           own = L .standing .own;

@@ -4,7 +4,7 @@ use mathlib.Core.Path.{_≡_, refl, sym, _∙_, subst}
 use mathlib.Core.Logic.{_⊎_, inl, inr, _≢_, ⊎-elim}
 use mathlib.Core.List.{List, [], _∷_, map}
 use mathlib.Core.Bool.{true, false}
-use Rattle.memory.specs.{Sizes, Idle, Open, Place, Entry, Memory, place, bare, entries, Reply, looked, Call, ST, CM, AB, WT, SP, RD, WR, _∈_, refusal, KeepsOthers, Narrow, Row, Given, phase, New, refusals, unusable, rowsOf, Valued, Machine, ours, StoredFrom, Stores, Promised, OneMachine}
+use Rattle.memory.specs.{Sizes, Idle, Open, Place, Entry, Memory, place, ended, entries, Reply, looked, Call, ST, CM, AB, WT, SP, RD, WR, _∈_, refusal, KeepsOthers, Narrow, Row, Given, phase, New, refusals, unusable, rowsOf, Valued, Machine, ours, StoredFrom, Stores, Promised, OneMachine}
 use Rattle.memory.specs.Effects.{Goes, Leaves}
 use Rattle.memory.specs.Fixed.Claim.{call-answers, opening-answers, look-answers, refusals-keep, refused-openings-keep, calls-are-narrow, requests-leave, entries-stored, steps-leave, clashes-end, sound-lasts, opening-leaves, opening-is-sound}
 use Rattle.memory.proofs.StepAnswers.{ending}
@@ -52,7 +52,7 @@ module _ (M N : Machine) (P : Promised M) (Q : Promised N) (z : Sizes) (m : Memo
   -- Read and Write: overtaken, they go as Abort does; with 0 their entries tell what they leave
   enters : (c : Call) (t a : ℕ) (rows : List Row) (from : ℕ) → refusing rows ≡ true
       → Any c (λ x. Given (unusable z m t a rows) (x .number) × KeepsOthers z m t (x .after)
-      × (x .number ≡ 9 → Goes m t (x .after) (bare 0 Idle)) × (x .number ≡ 0 → StoredFrom from z m t (x .after)))
+      × (x .number ≡ 9 → Goes m t (x .after) ended) × (x .number ≡ 0 → StoredFrom from z m t (x .after)))
       → (r c .number ≡ s c .number → r c .value ≡ s c .value)
       → (r c .number ≡ 0 → s c .number ≡ 0
       → (phase (r c .after) t ≡ Open) × (phase (s c .after) t ≡ Open) × (entries z (r c .after) t ≡ entries z (s c .after) t)) → r c ≡ s c
@@ -60,7 +60,7 @@ module _ (M N : Machine) (P : Promised M) (Q : Promised N) (z : Sizes) (m : Memo
       let (x, k, g, S) = is M P in
       let (y, l, h, T) = is N Q in
       alike c t _ ((5, _) ∷ (6, _) ∷ (9, _) ∷ rows) x y value (λ (ok, lt, _) w b e.
-      ⊎-elim (λ (_, n). same-goes z _ _ (P sound-lasts z m ok c) (Q sound-lasts z m ok c) m t k l (bare 0 Idle) (g n) (h (sym e ∙ n))) (λ (_, u).
+      ⊎-elim (λ (_, n). same-goes z _ _ (P sound-lasts z m ok c) (Q sound-lasts z m ok c) m t k l ended (g n) (h (sym e ∙ n))) (λ (_, u).
       let n = only-0 rows all (r c .number) b u in
       let (o, p, es) = after n (sym e ∙ n) in
       same-stored z _ _ (P sound-lasts z m ok c) (Q sound-lasts z m ok c) m t k l from lt (S n) (T (sym e ∙ n)) o p es)

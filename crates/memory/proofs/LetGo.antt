@@ -5,7 +5,7 @@ use mathlib.Core.Logic.{_⊎_, inl, inr, _≢_, ⊎-elim}
 use mathlib.Core.Bool.{true}
 use native.Mathlib.Omega.{arith}
 use native.Mathlib.Nat.{mod-lt}
-use Rattle.memory.specs.{Sizes, Outcome, Committed, Failed, Woken, Releasing, Idle, Place, Held, Version, Owner, Entry, Memory, steps, place, entry, held, bare, sound, endNumber, SP, call, phase, final, TheWokenEnds, ours}
+use Rattle.memory.specs.{Sizes, Outcome, Committed, Failed, Woken, Releasing, Place, Held, Version, Owner, Entry, Memory, steps, place, entry, held, bare, ended, sound, endNumber, SP, call, phase, final, TheWokenEnds, ours}
 use Rattle.memory.proofs.Codes.{phase-of}
 use Rattle.memory.proofs.Facts.{some-record, agree, owns-none}
 use Rattle.memory.proofs.Fresh.{in-entries}
@@ -44,18 +44,18 @@ module _ (z : Sizes) (t : ℕ) (lt : t < z .tasks) (o : Outcome) (b : Memory) (o
       given : held m (rec j) ≡ Owner t → Back (rec j) (held m (rec j)) → Back (rec j) (Version (final o (e j)))
       given q x = inr (⊎-elim (λ y. sym y ∙ q) (λ y. y .0) x, λ k d s. ap Version (final-same o (e j) (e k) (agree z b okb t lt j k h d (sym s))))
 
-  lets-all : (k : ℕ) (m : Memory) (j : ℕ) → k + j ≡ n → LetGo m (bare n (Releasing o j)) → Reaches z t m k (endNumber o) (λ m′. LetGo m′ (bare 0 Idle))
+  lets-all : (k : ℕ) (m : Memory) (j : ℕ) → k + j ≡ n → LetGo m (bare n (Releasing o j)) → Reaches z t m k (endNumber o) (λ m′. LetGo m′ ended)
   lets-all zero m j s L =
       let S = ends z t lt b m o (subst (λ (i : ℕ). Stands z t lt b m (bare n (Releasing o i))) (omega arith) (L .standing)) in
       arrives z t m _ _ (S .number) (since-same z t lt b L S)
   lets-all (suc k) m j s L = let x = lets-one m j L (omega arith) in goes-on z t m _ _ k (x .0) (lets-all k _ (suc j) (omega arith) (x .1))
 
   -- from the beginning to the end
-  pub lets-go : phase b t ≡ Releasing o 0 → Reaches z t b n (endNumber o) (λ m′. LetGo m′ (bare 0 Idle))
+  pub lets-go : phase b t ≡ Releasing o 0 → Reaches z t b n (endNumber o) (λ m′. LetGo m′ ended)
   lets-go q = lets-all n b 0 (omega arith) (sets-out z t lt b okb (Releasing o 0) q (λ r. inl refl))
 
   -- what each record holds then
-  module _ (m : Memory) (L : LetGo m (bare 0 Idle)) (r : ℕ) where
+  module _ (m : Memory) (L : LetGo m ended) (r : ℕ) where
     pub freed : r < z .records → held b r ≡ Owner t → (k : ℕ) → k < n → rec k ≡ r → held m r ≡ Version (final o (e k))
     freed h q k d s =
         ⊎-elim (λ x. absurd (owns-none z m (L .standing .ok) t (ap steps (phase-of (L .standing .own))) r h (x ∙ q))) (λ x. x .1 k d s) (L .records r)

@@ -6,6 +6,7 @@ pub mod Tools
 pub mod Codes
 pub mod Cases
 pub mod Find
+pub mod Limits
 pub mod Stores
 pub mod Facts
 pub mod Fresh

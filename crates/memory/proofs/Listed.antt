@@ -6,7 +6,7 @@ use mathlib.Core.List.{List, [], _∷_, List·Memᴰ·head, List·Memᴰ·tail}
 use mathlib.Core.Bool.{Bool, true, false, false≢true}
 use lib.Dec.{eqb}
 use native.Mathlib.Omega.{arith}
-use Rattle.memory.specs.{if_then_else_, Sizes, Commit, Sleep, Committed, Failed, Woken, Phase, Idle, Open, Taking, Asleep, Releasing, Place, Entry, Memory, isIdle, isOpen, steps, wakes, kindOf, whichOf, positionOf, committed, place, bare, setPlace, move, topVersion, sound, Reply, reply, refused, opened, openBoard, start, abort, commit, wait, fresh, known, added, written, rewrite, read, store, write, Call, ST, CM, AB, WT, SP, RD, WR, call, asker, _∈_, Op, Notes, nothing, logged, decides, stepped, noted, Event, request, lookup, opening, listed, Scene, scene, begun, next, ran, reached, refusal, Clashed, phase, Opened, CommittedIsListed}
+use Rattle.memory.specs.{if_then_else_, Sizes, Commit, Sleep, Committed, Failed, Woken, Phase, Open, Taking, Asleep, Releasing, Place, Entry, Memory, isIdle, isOpen, steps, wakes, kindOf, whichOf, positionOf, committed, place, bare, ended, setPlace, move, topVersion, sound, Reply, reply, refused, opened, openBoard, start, abort, commit, wait, fresh, known, added, written, rewrite, read, store, write, Call, ST, CM, AB, WT, SP, RD, WR, call, asker, _∈_, Op, Notes, nothing, logged, decides, stepped, noted, Event, request, lookup, opening, listed, Scene, scene, begun, next, ran, reached, refusal, Clashed, phase, Opened, CommittedIsListed}
 use Rattle.memory.proofs.Tools.{same?, if-cases, upd-other}
 use Rattle.memory.proofs.Codes.{phase-of}
 use Rattle.memory.proofs.Cases.{no-refusal, opening-cases, asked-cases, addressed-cases}
@@ -46,7 +46,7 @@ module _ (z : Sizes) (m : Memory) (t : ℕ) where
   went-adds ok lt q (moves {p = p} d) = subst⁻¹ (λ (x : Place). Adds p (x .phase)) (lands z m t ok lt d) (adds d)
   went-adds ok lt q rests = subst⁻¹ (Adds Asleep) q (inr (λ q. omega (arith, ap kindOf q), refl, λ c. c))
   went-adds ok lt q (ends o) =
-      subst⁻¹ (λ (x : Place). Adds (Releasing o (place m t .count)) (x .phase)) (place-same m t (bare 0 Idle) (in-places z m ok t lt))
+      subst⁻¹ (λ (x : Place). Adds (Releasing o (place m t .count)) (x .phase)) (place-same m t ended (in-places z m ok t lt))
       (inr (λ q. omega (arith, ap kindOf q), refl, λ c. absurd (false≢true c)))
 
   -- 21 is answered at the end of releasing as committed
@@ -138,19 +138,19 @@ module _ (G : Notes) where
     mine I (CM t) = asked-cases z m t isOpen _ (Mine I t (CM t)) (as-was I t (CM t)) (λ ok lt c.
         uncommitted I t (CM t) (reply 0 0 (move m t (Taking Commit 0))) _ (moved-to z m t ok lt m (Taking Commit 0) refl) refl)
     mine I (AB t) = asked-cases z m t isOpen _ (Mine I t (AB t)) (as-was I t (AB t)) (λ ok lt c.
-        uncommitted I t (AB t) (reply 0 0 (setPlace m t (bare 0 Idle))) (bare 0 Idle) (place-same m t _ (in-places z m ok t lt)) refl)
+        uncommitted I t (AB t) (reply 0 0 (setPlace m t ended)) ended (place-same m t _ (in-places z m ok t lt)) refl)
     mine I (WT t) = asked-cases z m t isOpen _ (Mine I t (WT t)) (as-was I t (WT t)) (λ ok lt c.
         if-cases (Mine I t (WT t)) (eqb (place m t .count) 0) _ _ (λ d. as-was I t (WT t) 7 refl) (λ d.
         uncommitted I t (WT t) (reply 0 0 (move m t (Taking Sleep 0))) _ (moved-to z m t ok lt m (Taking Sleep 0) refl) refl))
     mine I (SP t) = step-cases z m t (Mine I t (SP t)) (as-was I t (SP t)) (λ ok lt r w. step-in I t r (went-adds z m t ok lt refl w))
     mine I (RD t a) =
         addressed-cases z m t a _ _ (Mine I t (RD t a)) (as-was I t (RD t a))
-        (λ ok lt op. uncommitted I t (RD t a) (reply 9 0 (setPlace m t (bare 0 Idle))) (bare 0 Idle) (place-same m t _ (in-places z m ok t lt)) refl)
+        (λ ok lt op. uncommitted I t (RD t a) (reply 9 0 (setPlace m t ended)) ended (place-same m t _ (in-places z m ok t lt)) refl)
         (λ ok lt op w k. uncommitted I t (RD t a) (reply 0 (known z m t a .new .value) m) (place m t) refl (ap committed op))
         (λ ok lt op w k room o. uncommitted I t (RD t a) (reply 0 (fresh z m t a .new .value) (added z m t a)) _ (added-place z m ok t lt a) (ap committed op))
     mine I (WR t a v) =
         addressed-cases z m t a _ _ (Mine I t (WR t a v)) (as-was I t (WR t a v))
-        (λ ok lt op. uncommitted I t (WR t a v) (reply 9 0 (setPlace m t (bare 0 Idle))) (bare 0 Idle) (place-same m t _ (in-places z m ok t lt)) refl)
+        (λ ok lt op. uncommitted I t (WR t a v) (reply 9 0 (setPlace m t ended)) ended (place-same m t _ (in-places z m ok t lt)) refl)
         (λ ok lt op w k. stored I t (WR t a v) m a v _ (known z m t a) op)
         (λ ok lt op w k room o. stored I t (WR t a v) (added z m t a) a v _ (fresh z m t a) (phase-of (added-place z m ok t lt a) ∙ op))
 

@@ -1,12 +1,12 @@
 -- Each of the thirteen wrong machines breaks its claim.
-use Prim.Native.Nat.{ℕ}
+use Prim.Native.Nat.{ℕ, _-_}
 use mathlib.Core.Path.{refl}
 use mathlib.Core.List.{List, [], _∷_, _++_}
 use mathlib.Core.Bool.{false≢true}
 use lib.ListN.{length, getD}
 use native.Mathlib.Omega.{arith}
 use borrow.Author.Tests.{eqb-false}
-use Rattle.memory.specs.{Memory, memory, opened, ST, CM, AB, RD, small, boardAfter, writes7, commits, CallAnswers, OpeningAnswers, LookAnswers, RefusalsKeep, RefusedOpeningsKeep, CallsAreNarrow, RequestsLeave, EntriesStored, StepsLeave, ClashesEnd, SoundLasts, OpeningLeaves, OpeningIsSound}
+use Rattle.memory.specs.{Memory, memory, limit, opened, ST, CM, AB, RD, small, boardAfter, writes7, commits, CallAnswers, OpeningAnswers, LookAnswers, RefusalsKeep, RefusedOpeningsKeep, CallsAreNarrow, RequestsLeave, EntriesStored, StepsLeave, ClashesEnd, SoundLasts, OpeningLeaves, OpeningIsSound}
 use Rattle.memory.specs.Thirteen.{startSays1, openingSays1, lookSays5First, refusedStartOpens, refusedOpeningClears, startWrites, abortDoesNothing, readScribbles, writingStays, ownerStays, startWidens, openingWrites, openingLeavesNoRows}
 use Rattle.memory.proofs.Machine.{machine}
 use Rattle.memory.proofs.Breaks.{differ, phaseKind, other-look, met, after, nothing}
@@ -41,7 +41,7 @@ abort-does-nothing h = differ phaseKind (h small (after (ST 0 ∷ [])) (AB 0) re
 
 pub read-scribbles : EntriesStored readScribbles → ⊥
 unfolding machine small boardAfter after
-read-scribbles h = differ (λ (l : List ℕ). getD l 0 0) (h small (after (ST 0 ∷ [])) (RD 0 1) refl .beyond 63 (omega arith) (omega arith)) refl
+read-scribbles h = differ (λ (l : List ℕ). getD l 0 0) (h small (after (ST 0 ∷ [])) (RD 0 1) refl .beyond (limit small - 1) (omega arith) (omega arith)) refl
 
 -- with 7 to be written at 1
 pub writing-stays : StepsLeave writingStays → ⊥

@@ -1,5 +1,5 @@
 -- The claims that a wrong Start, Abort or Read breaks alone.
-use Prim.Native.Nat.{ℕ, _+_, _%_, _<_}
+use Prim.Native.Nat.{ℕ, _+_, _-_, _%_, _<_}
 use mathlib.Core.Path.{_≡_, refl, sym, ap, _∙_, subst⁻¹}
 use mathlib.Core.Logic.{inl, inr, _≢_}
 use mathlib.Core.List.{List, [], _∷_, map}
@@ -9,12 +9,13 @@ use lib.ListN.{length, set, take, drop, length-set}
 use lib.Seq.{getD-set-same, getD-set-other, drop-set-add, take-set-le}
 use native.Mathlib.Omega.{arith}
 use borrow.Author.Tests.{ltb-true}
-use Rattle.memory.specs.{Sizes, Open, Entry, Memory, memory, phaseOf, placeOf, place, bare, entry, entryOf, rowOfEntry, entries, limit, mostEntries, runStart, setWord, setPlace, setEntry, sound, entryOk, held, ST, AB, RD, call, ours, KeepsOthers, Given, refusal, rowsOf, phase, Entered, Promised, Needed, call-answers, refusals-keep, calls-are-narrow, requests-leave, entries-stored, sound-lasts}
+use Rattle.memory.specs.{Sizes, Open, Entry, Memory, memory, phaseOf, placeOf, place, bare, entry, entryOf, rowOfEntry, entries, limit, runStart, setWord, setPlace, setEntry, sound, entryOk, held, ST, AB, RD, call, ours, KeepsOthers, Given, refusal, rowsOf, phase, Entered, Promised, Needed, call-answers, refusals-keep, calls-are-narrow, requests-leave, entries-stored, sound-lasts}
 use Rattle.memory.specs.Thirteen.{withPlaces, mark, scribbled, startSays1, refusedStartOpens, startWrites, abortDoesNothing, readScribbles, startWidens}
 use Rattle.memory.proofs.Tools.{if-cases}
 use Rattle.memory.proofs.Cases.{no-refusal}
 use Rattle.memory.proofs.AlikeReplies.{allowed}
-use Rattle.memory.proofs.Stores.{places-apart, entry-other}
+use Rattle.memory.proofs.Limits.{limit-some, places-apart}
+use Rattle.memory.proofs.Stores.{entry-other}
 use Rattle.memory.proofs.Facts.{Apart, in-places}
 use Rattle.memory.proofs.Lasts.{task-of, owner-of, sound-step}
 use Rattle.memory.proofs.Narrow.{untouched}
@@ -73,32 +74,35 @@ wide-row x t h = ap placeOf (getD-set-same (x .places) t (0 ∷ 1 ∷ 0 ∷ 0 �
 
 -- A Read that scribbles: of the entries of all tasks none is where it writes
 module _ (z : Sizes) (t : ℕ) (x : Memory) where
-  abbrev y : Memory
-  y = setEntry z x t 63 mark
+  abbrev last : ℕ
+  last = limit z - 1
 
-  scribbled-cases : (P : Memory → Type 0) → (place x t .count < mostEntries → P y) → P x → P (scribbled z t x)
-  scribbled-cases P f p = if-cases P (ltb (place x t .count) mostEntries) _ _ (λ d. f (ltb-true _ _ d)) (λ d. p)
+  abbrev y : Memory
+  y = setEntry z x t last mark
+
+  scribbled-cases : (P : Memory → Type 0) → (place x t .count < limit z → P y) → P x → P (scribbled z t x)
+  scribbled-cases P f p = if-cases P (ltb (place x t .count) (limit z)) _ _ (λ d. f (ltb-true _ _ d)) (λ d. p)
 
   still-open : phase x t ≡ Open → phase y t ≡ Open
   unfolding setEntry place
   still-open q = q
 
-  same-entries : place x t .count < mostEntries → entries z y t ≡ entries z x t
+  same-entries : place x t .count < limit z → entries z y t ≡ entries z x t
   unfolding setEntry place
   same-entries h =
-      ap (λ (k : List (List ℕ)). map entryOf (take n k)) (drop-set-add (runStart z t) (x .entries) 63 (rowOfEntry mark))
-      ∙ ap (map entryOf) (take-set-le n (drop (runStart z t) (x .entries)) 63 (rowOfEntry mark) (omega arith))
+      ap (λ (k : List (List ℕ)). map entryOf (take n k)) (drop-set-add (runStart z t) (x .entries) last (rowOfEntry mark))
+      ∙ ap (map entryOf) (take-set-le n (drop (runStart z t) (x .entries)) last (rowOfEntry mark) (omega arith))
     where
       n : ℕ
       n = place x t .count
 
   other-runs : (u i : ℕ) → u ≢ t → i < limit z → entry z y u i ≡ entry z x u i
-  other-runs u i ne h = entry-other z x t 63 mark u i (places-apart z t u 63 i ne (unfold limit in omega arith) h)
+  other-runs u i ne h = entry-other z x t last mark u i (places-apart z t u last i ne (omega (arith, limit-some z)) h)
 
   scribbled-sound : t < z .tasks → sound z x ≡ true → sound z (scribbled z t x) ≡ true
   scribbled-sound lt s = scribbled-cases (λ (k : Memory). sound z k ≡ true) (λ h. unfold setEntry in
-      sound-beside z x s (x .words) (y .entries) t lt refl (length-set (x .entries) (runStart z t + 63) (rowOfEntry mark)) (unfold setEntry in other-runs)
-      (λ i k. unfold setEntry in entry-other z x t 63 mark t i (λ e. absurd (omega (arith, k, h, e))))) s
+      sound-beside z x s (x .words) (y .entries) t lt refl (length-set (x .entries) (runStart z t + last) (rowOfEntry mark)) (unfold setEntry in other-runs)
+      (λ i k. unfold setEntry in entry-other z x t last mark t i (λ e. absurd (omega (arith, k, h, e))))) s
 
 module _ (O : Promised ours) where
   -- Start ------------------------------------------------------------------------------------------------------------------------------------

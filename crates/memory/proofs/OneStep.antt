@@ -6,7 +6,7 @@ use mathlib.Core.Logic.{_≢_, ⊎-elim}
 use mathlib.Core.Bool.{true}
 use lib.ListN.{drop}
 use native.Mathlib.Omega.{arith}
-use Rattle.memory.specs.{Sizes, Goal, Commit, Outcome, Committed, Failed, Phase, Idle, Taking, Writing, Releasing, Place, Held, Version, Owner, Entry, Memory, kindOf, positionOf, steps, place, entry, held, bare, moved, sound, endNumber, SP, call, phase, Given, rowsOf, word, Same, ButAt, Left, final, Steps, Meets, Clash}
+use Rattle.memory.specs.{Sizes, Goal, Commit, Outcome, Committed, Failed, Phase, Taking, Writing, Releasing, Place, Held, Version, Owner, Entry, Memory, kindOf, positionOf, steps, place, entry, held, bare, ended, moved, sound, endNumber, SP, call, phase, Given, rowsOf, word, Same, ButAt, Left, final, Steps, Meets, Clash}
 use Rattle.memory.proofs.Codes.{not-owner, owner-inj, count-of, phase-of}
 use Rattle.memory.proofs.Stores.{entry-from}
 use Rattle.memory.proofs.Went.{steps-not}
@@ -171,5 +171,5 @@ module _ (z : Sizes) (t : ℕ) (lt : t < z .tasks) (b : Memory) where
         stepped m _ S (rw (count m _ S, same m _ S i) at (left m _ S .2) h q) refl (moved-given n _ _ (λ o x. omega (arith, h, ap positionOf x)))
         (λ u ne x. omega (arith, met m _ S u x .0))
 
-  pub ends : (m : Memory) (o : Outcome) → Stands m (bare n (Releasing o n)) → Stepped m (endNumber o) (bare 0 Idle) Same Same
+  pub ends : (m : Memory) (o : Outcome) → Stands m (bare n (Releasing o n)) → Stepped m (endNumber o) ended Same Same
   ends m o S = stepped m _ S (rw (count m _ S) at (left m _ S .0) refl) refl (ended-given n o) (λ u ne x. omega (arith, met m _ S u x .0))

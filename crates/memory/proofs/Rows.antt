@@ -11,7 +11,8 @@ use Rattle.memory.specs.{Sizes, Entry, Memory, place, entry, entryOf, ro
 use Rattle.memory.proofs.Tools.{if-cases}
 use Rattle.memory.proofs.Codes.{entry-back, count-of}
 use Rattle.memory.proofs.Cases.{no-refusal, addressed-cases}
-use Rattle.memory.proofs.Stores.{places-apart, run-inside, row-same, row-other, rewrite-places, rewritten-row, rewrite-row, place-from}
+use Rattle.memory.proofs.Limits.{places-apart, run-inside}
+use Rattle.memory.proofs.Stores.{row-same, row-other, rewrite-places, rewritten-row, rewrite-row, place-from}
 use Rattle.memory.proofs.Facts.{entries-length, count-most, run-fits}
 use Rattle.memory.proofs.Fresh.{added-place, added-fits}
 use Rattle.memory.proofs.Serial.{always}

@@ -7,7 +7,7 @@ use mathlib.Core.Bool.{false≢true}
 use lib.ListN.{length, getD, replicate}
 use native.Mathlib.Omega.{arith}
 use borrow.Author.Tests.{eqb-false}
-use Rattle.memory.specs.{Sizes, Idle, Asleep, Version, Owner, Seen, Entry, Memory, memory, topVersion, firstOwner, numberOf, held, place, entries, setHeld, opened, Call, ST, CM, WT, SP, RD, WR, ours, leaves, small, boardAfter, sleeping, writes7, commits, late, upd, _∈_, request}
+use Rattle.memory.specs.{Sizes, Idle, Asleep, Version, Owner, Seen, Entry, Memory, memory, topVersion, firstOwner, numberOf, held, place, limit, entries, setHeld, opened, Call, ST, CM, WT, SP, RD, WR, ours, leaves, small, boardAfter, sleeping, writes7, commits, late, upd, _∈_, request}
 use Rattle.memory.specs.Slips.{readKeepsSecond, writeKeepsSecond, thousandInWrite, openingOneFirst, thousandInOpening, thirtyOneTasks, asleepAnswers0, committerUntouched, waiterUntouched, sleeperUntouched, comerUntouched, comerSteals, endsCommitted, wakesAndTakes, alwaysRefuses, alwaysFails}
 use Rattle.memory.specs.SlipsRefuted.{SlipsAreRefuted}
 use Rattle.memory.proofs.Machine.{machine}
@@ -35,7 +35,7 @@ four : Sizes
 four = record { words = 4; records = 4; tasks = 1 }
 
 three : ℕ → List ℕ → Memory
-three i records = memory (replicate 4 0) records ((3 ∷ 2 ∷ i ∷ []) ∷ []) (rows 64 0)
+three i records = memory (replicate 4 0) records ((3 ∷ 2 ∷ i ∷ []) ∷ []) (rows (limit four) 0)
 
 first : Memory
 first = three 0 (1 ∷ 1 ∷ 1 ∷ 1 ∷ [])

@@ -5,7 +5,7 @@ use mathlib.Core.Logic.{inl, inr, _≢_}
 use mathlib.Core.List.{List, [], _∷_}
 use mathlib.Core.Bool.{true, false≢true}
 use native.Mathlib.Omega.{arith}
-use Rattle.memory.specs.{Sizes, Outcome, Committed, Failed, Woken, Phase, Idle, Asleep, Releasing, Place, Memory, kindOf, whichOf, positionOf, place, bare, sound, Reply, wakes, endNumber, Row, Given, phase}
+use Rattle.memory.specs.{Sizes, Outcome, Committed, Failed, Woken, Phase, Idle, Asleep, Releasing, Place, Memory, kindOf, whichOf, positionOf, place, ended, sound, Reply, wakes, endNumber, Row, Given, phase}
 use Rattle.memory.proofs.Tools.{if-cases}
 use Rattle.memory.proofs.Codes.{is-asleep}
 use Rattle.memory.proofs.Stores.{place-same}
@@ -50,4 +50,4 @@ module _ (z : Sizes) (m : Memory) (t : ℕ) (ok : sound z m ≡ true) (lt : t < 
   went-given q rests = inl (q, refl)
   went-given q (ends o) =
       subst⁻¹ (λ (x : Place). Given (ending (place m t .count) (Releasing o (place m t .count)) (x .phase)) (endNumber o))
-      (place-same m t (bare 0 Idle) (in-places z m ok t lt)) (ended-given _ o)
+      (place-same m t ended (in-places z m ok t lt)) (ended-given _ o)

@@ -6,7 +6,7 @@ use mathlib.Core.Bool.{true, false, true≢false}
 use lib.ListN.{length}
 use lib.Seq.{getD-set-same, getD-set-other}
 use native.Mathlib.Omega.{arith}
-use Rattle.memory.specs.{if_then_else_, Sizes, Goal, Failed, Woken, Phase, Idle, Open, Taking, Asleep, Writing, Releasing, Held, Owner, Memory, kindOf, steps, place, moved, bare, entry, held, heldOf, numberOf, setWord, setHeld, setPlace, move, sound, Reply, fails, wakes, clash, step, SP, call, ours, phase, word, Same, ButAt, Left, Steps, StepsLeave, struck, Meets, Clash, ClashesEnd}
+use Rattle.memory.specs.{if_then_else_, Sizes, Goal, Failed, Woken, Phase, Idle, Open, Taking, Asleep, Writing, Releasing, Held, Owner, Memory, kindOf, steps, place, moved, bare, ended, entry, held, heldOf, numberOf, setWord, setHeld, setPlace, move, sound, Reply, fails, wakes, clash, step, SP, call, ours, phase, word, Same, ButAt, Left, Steps, StepsLeave, struck, Meets, Clash, ClashesEnd}
 use Rattle.memory.proofs.Tools.{same?, both}
 use Rattle.memory.proofs.Codes.{version-back, owner-back, not-owner, owner-inj, version-inj}
 use Rattle.memory.proofs.Cases.{asked-4}
@@ -62,7 +62,7 @@ module _ (z : Sizes) (m : Memory) (t : ℕ) (ok : sound z m ≡ true) (lt : t < 
   leaves (moves (passes o i h ne)) = (short-of h, λ _ x. absurd (ne x), λ _ _. same-left (passes o i h ne))
   leaves rests = refl
   leaves (ends o) = (
-    λ _. unfold setPlace held in record { own = place-same m t (bare 0 Idle) (in-places z m ok t lt); words = λ a. refl; records = λ r. refl; entries = refl },
+    λ _. unfold setPlace held in record { own = place-same m t ended (in-places z m ok t lt); words = λ a. refl; records = λ r. refl; entries = refl },
     λ h. absurd (omega arith),
     λ h. absurd (omega arith),
   )
@@ -152,7 +152,7 @@ module _ (z : Sizes) (m : Memory) (t : ℕ) (ok : sound z m ≡ true) (lt : t < 
   meeting q (moves (gives o i h e)) = inr (elsewhere _ q (λ e. omega (arith, e)), beyond _ _)
   meeting q (moves (passes o i h e)) = inr (elsewhere _ q (λ e. omega (arith, e)), beyond m _)
   meeting q rests = inr (elsewhere _ q (λ e. omega (arith, e)), refl)
-  meeting q (ends o) = inr (elsewhere _ q (λ e. omega (arith, e)), place-other m t (bare 0 Idle) u ne)
+  meeting q (ends o) = inr (elsewhere _ q (λ e. omega (arith, e)), place-other m t ended u ne)
 
 pub clashes-end : ClashesEnd ours
 clashes-end z m t ok lt u ne = go (both (steps (phase m t)))

@@ -8,7 +8,7 @@ use lib.ListN.{length}
 use native.Mathlib.Omega.{arith}
 use native.Mathlib.Nat.{mod-lt}
 use borrow.Author.Tests.{ltb-true, ltb-false, eqb-true, eqb-false}
-use Rattle.memory.specs.{if_then_else_, Sizes, Goal, Commit, Sleep, Outcome, Committed, Failed, Phase, Idle, Open, Taking, Asleep, Writing, Releasing, Place, Held, Version, Owner, Memory, positionOf, steps, place, entry, held, bare, moved, setWord, setHeld, setPlace, move, sound, Reply, reply, refused, refusal, wakes, clash, meet, takeStep, decide, endNumber, releaseStep, stepIn, step, SP, call, decided, final}
+use Rattle.memory.specs.{if_then_else_, Sizes, Goal, Commit, Sleep, Outcome, Committed, Failed, Phase, Idle, Open, Taking, Asleep, Writing, Releasing, Place, Held, Version, Owner, Memory, positionOf, steps, place, entry, held, ended, moved, setWord, setHeld, setPlace, move, sound, Reply, reply, refused, refusal, wakes, clash, meet, takeStep, decide, endNumber, releaseStep, stepIn, step, SP, call, decided, final}
 use Rattle.memory.proofs.Tools.{if-cases}
 use Rattle.memory.proofs.Codes.{not-owner, owner-inj, final-is}
 use Rattle.memory.proofs.Cases.{asked-cases, asked-0}
@@ -60,7 +60,7 @@ module _ (z : Sizes) (m : Memory) (t : ℕ) where
   pub data Went : Phase → Reply → Type 0 where
     moves : {p p′ : Phase} {m₁ : Memory} → Does p m₁ p′ → Went p (reply (told p′) 0 (move m₁ t p′))
     rests : Went Asleep (reply 20 0 m)
-    ends : (o : Outcome) → Went (Releasing o n) (reply (endNumber o) 0 (setPlace m t (bare 0 Idle)))
+    ends : (o : Outcome) → Went (Releasing o n) (reply (endNumber o) 0 (setPlace m t ended))
 
 module _ (z : Sizes) (m : Memory) (t : ℕ) (ok : sound z m ≡ true) (lt : t < z .tasks) where
   abbrev c : ℕ
@@ -99,7 +99,7 @@ module _ (z : Sizes) (m : Memory) (t : ℕ) (ok : sound z m ≡ true) (lt : t < 
       (λ d. subst (λ (j : ℕ). Went z m t (Writing j) (reply 0 0 (move m t (Releasing Committed 0)))) (at-end _ e (ltb-false _ _ d)) (moves wrote-all))
   goes (Releasing o i) e s =
       if-cases (Went z m t (Releasing o i)) (ltb i c) _ _ (λ d. release (ltb-true _ _ d) (held m (recordAt z m t i)) refl)
-      (λ d. subst (λ (j : ℕ). Went z m t (Releasing o j) (reply (endNumber o) 0 (setPlace m t (bare 0 Idle)))) (at-end _ e (ltb-false _ _ d)) (ends o))
+      (λ d. subst (λ (j : ℕ). Went z m t (Releasing o j) (reply (endNumber o) 0 (setPlace m t ended))) (at-end _ e (ltb-false _ _ d)) (ends o))
     where
       P : Memory → Type 0
       P m′ = Went z m t (Releasing o i) (reply 0 0 m′)

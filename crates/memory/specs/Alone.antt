@@ -7,8 +7,7 @@ use mathlib.Core.Bool.{true}
 use lib.ListN.{length, replicate}
 use Rattle.memory.specs.Pieces.{Sizes, Commit, Idle, Open, Taking, Version, Entry, Memory, held, entries}
 use Rattle.memory.specs.Sound.{sound}
-use Rattle.memory.specs.Calls.{Call}
-use Rattle.memory.specs.Calls.Call.{ST, CM, SP, RD, WR}
+use Rattle.memory.specs.Calls.{Call, ST, CM, SP, RD, WR}
 use Rattle.memory.specs.Machines.{Machine, leaves, numbers}
 use Rattle.memory.specs.History.{_∈_}
 use Rattle.memory.specs.Answers.{phase}

@@ -9,8 +9,7 @@ use lib.ListN.{length}
 use Rattle.memory.specs.Pieces.{if_then_else_, Sizes, Commit, Taking, Memory, place, entries}
 use Rattle.memory.specs.Sound.{sound}
 use Rattle.memory.specs.Numbers.{Reply}
-use Rattle.memory.specs.Calls.{Call, call}
-use Rattle.memory.specs.Calls.Call.{ST, CM, AB, WT, SP, RD, WR}
+use Rattle.memory.specs.Calls.{Call, ST, CM, AB, WT, SP, RD, WR, call}
 
 -- how many of the calls are steps of a task
 abbrev pub ownStep : ℕ → Call → ℕ

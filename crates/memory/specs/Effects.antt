@@ -10,8 +10,7 @@ use Rattle.memory.specs.Pieces.{Sizes, Commit, Sleep, Idle, Open, Taking
 use Rattle.memory.specs.Logical.{logical}
 use Rattle.memory.specs.Sound.{sound}
 use Rattle.memory.specs.Numbers.{Reply}
-use Rattle.memory.specs.Calls.{Call}
-use Rattle.memory.specs.Calls.Call.{ST, CM, AB, WT, SP, RD, WR}
+use Rattle.memory.specs.Calls.{Call, ST, CM, AB, WT, SP, RD, WR}
 use Rattle.memory.specs.Machines.{Machine}
 use Rattle.memory.specs.History.{_∈_}
 use Rattle.memory.specs.Answers.{phase, New, OnRecord}

@@ -7,8 +7,7 @@ use lib.ListN.{drop, replicate}
 use Rattle.memory.specs.Pieces.{if_then_else_, Sizes, Memory, memory, Failed, Open, Writing, Releasing, bare, rowOf}
 use Rattle.memory.specs.Sound.{rowEqb}
 use Rattle.memory.specs.Requests.{openBoard}
-use Rattle.memory.specs.Calls.{Call}
-use Rattle.memory.specs.Calls.Call.{ST, CM, AB, WT, SP, RD, WR}
+use Rattle.memory.specs.Calls.{Call, ST, CM, AB, WT, SP, RD, WR}
 use Rattle.memory.specs.Machines.{ours, numbers}
 use Rattle.memory.specs.Answers.{Fits}
 use Rattle.memory.specs.Positions.{Position, _gives_, Hold, small, boardAfter, oneMore, thenNumbers, looks, placeRow, writes7, commits, late, sleeping, ends}

@@ -9,8 +9,7 @@ use lib.ListN.{getD, set}
 use Rattle.memory.specs.Pieces.{Sizes, Failed, Woken, Releasing, Place, Memory, place, moved, entry, limit}
 use Rattle.memory.specs.Step.{fails, wakes}
 use Rattle.memory.specs.Sound.{sound}
-use Rattle.memory.specs.Calls.{Call}
-use Rattle.memory.specs.Calls.Call.{ST, CM, AB, WT, SP, RD, WR}
+use Rattle.memory.specs.Calls.{Call, ST, CM, AB, WT, SP, RD, WR}
 use Rattle.memory.specs.Machines.{Machine}
 
 -- from any sound table on, over every call, refused ones too

@@ -8,8 +8,7 @@ use Rattle.memory.specs.Pieces.{Sizes, Commit, Taking, Asleep, Memory, p
 use Rattle.memory.specs.Logical.{logical}
 use Rattle.memory.specs.Sound.{sound}
 use Rattle.memory.specs.Requests.{openBoard, look, looked}
-use Rattle.memory.specs.Calls.{Call, call}
-use Rattle.memory.specs.Calls.Call.{SP}
+use Rattle.memory.specs.Calls.{Call, SP, call}
 use Rattle.memory.specs.History.{_∈_, Op, met, board, version, AllFind, zeros, Notes, listed, Event, Scene, asks, reached}
 use Rattle.memory.specs.Answers.{phase}
 

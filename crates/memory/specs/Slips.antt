@@ -6,14 +6,13 @@ use mathlib.Core.List.{List, [], _∷_}
 use mathlib.Core.Bool.{Bool, true, not, _&&_}
 use lib.Dec.{eqb, ltb, leb}
 use lib.ListN.{replicate}
-use Rattle.memory.specs.Pieces.{if_then_else_, Sizes, Commit, Sleep, Committed, Failed, Idle, Phase, Taking, Asleep, Writing, Releasing, Held, Version, Owner, Seen, Entry, Memory, memory, is, committed, positionOf, codeOf, phaseOf, held, place, bare, entry, setHeld, setPlace, setEntry, move}
+use Rattle.memory.specs.Pieces.{if_then_else_, Sizes, Commit, Sleep, Committed, Failed, Phase, Taking, Asleep, Writing, Releasing, Held, Version, Owner, Seen, Entry, Memory, memory, is, committed, positionOf, codeOf, phaseOf, held, place, ended, entry, setHeld, setPlace, setEntry, move}
 use Rattle.memory.specs.Logical.{logical}
 use Rattle.memory.specs.Sound.{allBelow, sizesOk, lengthsOk, taskOk}
 use Rattle.memory.specs.Numbers.{reply, refused}
 use Rattle.memory.specs.Requests.{looked, openBoard, look, fresh, added, overtaken, known, store}
 use Rattle.memory.specs.Step.{fails, wakes}
-use Rattle.memory.specs.Calls.{call}
-use Rattle.memory.specs.Calls.Call.{SP, RD}
+use Rattle.memory.specs.Calls.{SP, RD, call}
 use Rattle.memory.specs.Machines.{Machine, ours, leaves}
 use Rattle.memory.specs.History.{Op, puts, Notes, listed, Scene}
 use Rattle.memory.specs.Answers.{phase}
@@ -30,7 +29,7 @@ changing f z m t = leaving 0 (f z m t)
 
 -- Start resets the place of the task beside.
 abbrev pub startResetsAnother : Machine
-startResetsAnother = starting (changing (λ z m t x. setPlace x (suc t) (bare 0 Idle)))
+startResetsAnother = starting (changing (λ z m t x. setPlace x (suc t) ended))
 
 -- Four slips of Read or of Write. With 64 entries, a known address answers 6.
 abbrev pub sixForKnown : ℕ → Twist
@@ -38,7 +37,7 @@ sixForKnown a z m t r = if eqb (r .number) 0 && eqb (place m t .count) 64 then r
 
 -- 9 comes before 6.
 abbrev pub nineBeforeSix : ℕ → Twist
-nineBeforeSix a z m t r = if eqb (r .number) 6 && overtaken z m t a then reply 9 0 (setPlace m t (bare 0 Idle)) else r
+nineBeforeSix a z m t r = if eqb (r .number) 6 && overtaken z m t a then reply 9 0 (setPlace m t ended) else r
 
 -- The limit is 63: the entry that would be the 64th is refused.
 abbrev pub sixtyThree : ℕ → Twist

@@ -7,7 +7,7 @@ use mathlib.Core.Bool.{true}
 use lib.ListN.{getD}
 use Rattle.memory.specs.Pieces.{Sizes, Goal, Commit, Sleep, Outcome, Committed, Failed, Woken, Phase, Idle, Open, Taking, Asleep, Writing, Releasing, Place, Held, Version, Owner, Entry, Memory, place, moved, bare, entry, held}
 use Rattle.memory.specs.Sound.{sound}
-use Rattle.memory.specs.Calls.Call.{SP}
+use Rattle.memory.specs.Calls.{SP}
 use Rattle.memory.specs.Machines.{Machine}
 use Rattle.memory.specs.Answers.{phase}
 

@@ -1,10 +1,10 @@
 -- Thirteen wrong machines, one for each claim of Fixed, in its order: each breaks this claim and meets the other twelve.
-use Prim.Native.Nat.{ℕ, _%_}
+use Prim.Native.Nat.{ℕ, _-_, _%_}
 use mathlib.Core.List.{List, [], _∷_}
 use mathlib.Core.Bool.{Bool, false, not, _&&_}
 use lib.Dec.{eqb, ltb}
 use lib.ListN.{replicate, set}
-use Rattle.memory.specs.Pieces.{if_then_else_, Sizes, Failed, Open, Writing, Releasing, Held, Version, Owner, Entry, Memory, memory, mostEntries, positionOf, is, held, place, bare, entry, setWord, setPlace, setEntry, move}
+use Rattle.memory.specs.Pieces.{if_then_else_, Sizes, Failed, Open, Writing, Releasing, Held, Version, Owner, Entry, Memory, memory, positionOf, is, held, place, bare, limit, entry, setWord, setPlace, setEntry, move}
 use Rattle.memory.specs.Logical.{nothingSeen}
 use Rattle.memory.specs.Step.{fails}
 use Rattle.memory.specs.Requests.{opened, looked}
@@ -48,7 +48,7 @@ abbrev pub mark : Entry
 mark = record { address = 3; old = nothingSeen; new = nothingSeen }
 
 abbrev pub scribbled : Sizes → ℕ → Memory → Memory
-scribbled z t x = if ltb (place x t .count) mostEntries then setEntry z x t 63 mark else x
+scribbled z t x = if ltb (place x t .count) (limit z) then setEntry z x t (limit z - 1) mark else x
 
 abbrev pub readScribbles : Machine
 readScribbles = reading (λ a z m t r. leaving 0 (scribbled z t) r)

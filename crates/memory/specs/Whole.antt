@@ -10,8 +10,7 @@ use lib.ListN.{length, getD, replicate}
 use Rattle.memory.specs.Pieces.{Sizes, Woken, Idle, Asleep, Releasing, Held, Version, Owner, Entry, Memory, place, moved, bare, entry, entries, limit, held}
 use Rattle.memory.specs.Logical.{logical}
 use Rattle.memory.specs.Sound.{sound}
-use Rattle.memory.specs.Calls.{Call}
-use Rattle.memory.specs.Calls.Call.{ST, CM, SP}
+use Rattle.memory.specs.Calls.{Call, ST, CM, SP}
 use Rattle.memory.specs.Machines.{Machine, ours, leaves, numbers}
 use Rattle.memory.specs.History.{_∈_, bit}
 use Rattle.memory.specs.Answers.{phase}

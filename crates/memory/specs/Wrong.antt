@@ -4,8 +4,7 @@ use lib.Dec.{eqb}
 use Rattle.memory.specs.Pieces.{if_then_else_, Sizes, Memory}
 use Rattle.memory.specs.Numbers.{Looked, Reply, reply}
 use Rattle.memory.specs.Requests.{openBoard, look}
-use Rattle.memory.specs.Calls.{Call, call}
-use Rattle.memory.specs.Calls.Call.{ST, CM, AB, WT, SP, RD, WR}
+use Rattle.memory.specs.Calls.{Call, ST, CM, AB, WT, SP, RD, WR, call}
 use Rattle.memory.specs.Machines.{Machine}
 
 -- what becomes of our reply to a request of a task

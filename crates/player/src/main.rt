@@ -1,21 +1,21 @@
 // Plays the session that standard input holds, and prints its text. Reading and writing are all that is done here.
 ghost use mathlib.Core.Path.{_≡_};
 ghost use lib.ListN.{length};
-ghost use Rattle.play.specs.Claims.{mostText};
+ghost use Rattle.session_play.specs.Claims.{mostText};
 use libc::STDIN_FILENO;
 use libc::STDOUT_FILENO;
-use play::Played;
+use session_play::Played;
 
 // §12.1: one byte past the longest session, to tell 14.
 fn room_for_session() -> [u8; 60001] {
     [0u8; 60001]
 }
 
-// No text is longer, by `text-is-short` in crates/play.
-fn room_for_text() -> [u8; play::MOST_TEXT]
+// No text is longer, by `text-is-short` in crates/session_play.
+fn room_for_text() -> [u8; session_play::MOST_TEXT]
     ensures { λ r. ⌜ length r ≡ mostText ⌝ }
 {
-    [0u8; play::MOST_TEXT]
+    [0u8; session_play::MOST_TEXT]
 }
 
 // Prints the text, which was written whole if there was room for it.
@@ -29,9 +29,9 @@ fn print(text: &[u8], length: usize) {
 fn play_session(session: &[u8], text: &mut [u8]) {
     let mut words = [0u32; memory::MOST_WORDS];
     let mut records = [0u32; memory::MOST_RECORDS];
-    let mut places = [[0u32; 3]; memory::MOST_TASKS];
-    let mut entries = [[0u32; 5]; memory::MOST_ENTRIES * memory::MOST_TASKS];
-    let played = play::play(
+    let mut places = [[0u32; memory::PLACE_WIDTH]; memory::MOST_TASKS];
+    let mut entries = [[0u32; memory::ENTRY_WIDTH]; memory::MOST_ROWS];
+    let played = session_play::play(
         session,
         &mut words,
         &mut records,

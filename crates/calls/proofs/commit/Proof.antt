@@ -1,14 +1,15 @@
 -- `calls::commit` meets its contract: 1 on an unsound table, and otherwise what the call on a sound one says.
 use borrow.Author.Needs.{needs}
-use Rattle.memory.specs.Calls.{CM, call}
-use Rattle.parts.proofs.Tests.{refused, passed}
+use Rattle.memory.specs.declared.Call.the-variants.{CM}
+use Rattle.memory.specs.Calls.{call}
+use Rattle.table_parts.proofs.Tests.{refused, passed}
 use Rattle.calls.proofs.Refusals.{unsound-reply}
 use Rattle.calls.proofs.commit.Statement.{statement}
 use Rattle.calls.proofs.commit.Tie as tie
 
 returns : tie.Need-returns
 unfolding call
-returns c = unsound-reply _ _ (CM _) _ (c .refused .ensures) (refused (c .before .before .is-sound .ensures) (c .before .if1 .taken))
+returns c = unsound-reply _ _ (CM _) _ (c .unsound .ensures) (refused (c .before .before .is-sound .ensures) (c .before .if1 .taken))
 
 commit-sound-requires : tie.Need-commit-sound-requires
 commit-sound-requires c κs = passed (c .before .before .is-sound .ensures) (c .before .if1 .left)

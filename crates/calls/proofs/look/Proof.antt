@@ -1,26 +1,17 @@
--- `calls::look` meets its contract: 1 on an unsound table, 5 past the words, and otherwise the logical value and version.
-use mathlib.Core.Path.{_≡_}
-use mathlib.Core.Bool.{true}
-use native.Mathlib.Omega.{arith}
+-- `calls::look` meets its contract: 1 on an unsound table, and otherwise what the look-up on a sound one says.
 use borrow.Author.Needs.{needs}
-use Rattle.memory.specs.Pieces.{memory}
-use Rattle.memory.specs.Sound.{sound}
-use Rattle.parts.proofs.Tests.{refused, passed}
-use Rattle.calls.proofs.Refusals.{unsound-look, past-the-words, seen}
+use Rattle.table_parts.proofs.Tests.{refused, passed}
+use Rattle.calls.proofs.Refusals.{unsound-look}
 use Rattle.calls.proofs.look.Statement.{statement}
 use Rattle.calls.proofs.look.Tie as tie
 
 returns : tie.Need-returns
-returns c = unsound-look _ _ _ _ (c .unseen .ensures) (refused (c .before .before .is-sound .ensures) (c .before .if1 .taken))
+returns c =
+    unsound-look _ _ _ _ _ (c .before .unsound .ensures) (c .unseen .ensures)
+    (refused (c .before .before .before .is-sound .ensures) (c .before .before .if1 .taken))
 
-returns-2 : tie.Need-returns-2
-returns-2 c = past-the-words _ _ (passed (c .before .before .before .before .is-sound .ensures) (c .before .before .before .if1 .left)) _ _ (c .unseen2 .ensures) (c .before .if2 .taken)
-
-logical-requires : tie.Need-logical-requires
-logical-requires c κs = (passed (c .before .before .before .is-sound .ensures) (c .before .before .if1 .left), omega arith)
-
-returns-3 : tie.Need-returns-3
-returns-3 c = seen _ _ (passed (c .before .before .before .before .is-sound .ensures) (c .before .before .before .if1 .left)) _ _ (c .logical .ensures) (omega arith)
+look-sound-requires : tie.Need-look-sound-requires
+look-sound-requires c κs = passed (c .before .is-sound .ensures) (c .if1 .left)
 
 pub look-spec : {M : Type 1} → statement M
 look-spec =
@@ -28,8 +19,7 @@ look-spec =
     (tie.spec
     (λ c κs. search needs)
     (λ c κs. search needs)
-    returns
     (λ c κs. search needs)
-    returns-2
-    logical-requires
-    returns-3)
+    returns
+    look-sound-requires
+    (λ c. search needs))

@@ -1,14 +1,15 @@
 -- `calls::write` meets its contract: 1 on an unsound table, and otherwise what the call on a sound one says.
 use borrow.Author.Needs.{needs}
-use Rattle.memory.specs.Calls.{WR, call}
-use Rattle.parts.proofs.Tests.{refused, passed}
+use Rattle.memory.specs.declared.Call.the-variants.{WR}
+use Rattle.memory.specs.Calls.{call}
+use Rattle.table_parts.proofs.Tests.{refused, passed}
 use Rattle.calls.proofs.Refusals.{unsound-reply}
 use Rattle.calls.proofs.write.Statement.{statement}
 use Rattle.calls.proofs.write.Tie as tie
 
 returns : tie.Need-returns
 unfolding call
-returns c = unsound-reply _ _ (WR _ _ _) _ (c .refused .ensures) (refused (c .before .before .is-sound .ensures) (c .before .if1 .taken))
+returns c = unsound-reply _ _ (WR _ _ _) _ (c .unsound .ensures) (refused (c .before .before .is-sound .ensures) (c .before .if1 .taken))
 
 write-sound-requires : tie.Need-write-sound-requires
 write-sound-requires c κs = passed (c .before .before .before .is-sound .ensures) (c .before .before .if1 .left)

@@ -1,5 +1,5 @@
 -- `player::room_for_text` meets its contract: the number in the code is the one that is claimed.
-use Rattle.play.specs.Claims.{mostText}
+use Rattle.session_play.specs.Claims.{mostText}
 use Prim.Native.Nat.{ℕ}
 use lib.ListN.{length-replicate}
 use Rattle.player.proofs.room_for_text.Statement.{statement}

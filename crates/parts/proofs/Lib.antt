@@ -1,5 +1,0 @@
--- Laws that proofs of the check share, here and in the crates above.
-pub mod Tests
-pub mod Ranges
-pub mod Rows
-pub mod Division

@@ -1,4 +1,0 @@
--- What the session player prints, as a definition, and what is promised of it.
-pub mod Play
-pub mod Contract
-pub mod Claims

@@ -1,0 +1,3 @@
+-- Laws of the numbers of a body and of the table of widths.
+pub mod Numbers
+pub mod Table

@@ -1,0 +1,10 @@
+-- `step_phase::end` meets its contract.
+use borrow.Author.Needs.{needs}
+use Rattle.step_phase.proofs.end.Statement.{statement}
+use Rattle.step_phase.proofs.end.Tie as tie
+
+returns : tie.Need-returns
+returns c = rw (c .goes .ensures, c .before .end-number .ensures, c .before .before .ended .ensures)
+
+pub end-spec : {M : Type 1} → statement M
+end-spec = tie.close (tie.spec (λ c κs. search needs) (λ c κs. search needs) (λ c κs. search needs) returns)

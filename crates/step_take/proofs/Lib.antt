@@ -1,0 +1,2 @@
+-- Laws that the proofs of this crate and of its callers share.
+pub mod Taken

@@ -1,0 +1,4 @@
+-- Laws that the proofs share.
+mod Freed
+mod Passed
+mod Whole

@@ -1,0 +1,2 @@
+-- Laws of a task's row.
+pub mod Rows

@@ -1,0 +1,72 @@
+// A task's row by itself (§10): whether it is right, and the first entry by which its task may own a record.
+ghost use mathlib.Core.Path.{_≡_};
+ghost use mathlib.Core.Bool.{true};
+ghost use Rattle.memory.specs.Pieces.{isIdle, placeOf};
+ghost use Rattle.memory.specs.Sound.{placeOk};
+ghost use Rattle.table_places.specs.Places.{ownsIn, ownsFrom};
+use memory::Phase;
+use memory::PlaceRow;
+use memory::Sizes;
+
+// Whether a phase is Idle, kind by kind.
+fn is_idle(phase: Phase) -> bool
+    ensures { λ r. ⌜ r ≡ isIdle phase ⌝ }
+{
+    match phase {
+        Phase::Idle => true,
+        Phase::Open => false,
+        Phase::Taking(_, _) => false,
+        Phase::Asleep => false,
+        Phase::Writing(_) => false,
+        Phase::Releasing(_, _) => false,
+    }
+}
+
+// §10.3, §10.4: a task's row by itself: it is that of the place that is read from it, and the place's numbers fit together.
+pub fn place_ok(sizes: Sizes, row: PlaceRow) -> bool
+    ensures { λ r. ⌜ r ≡ placeOk sizes row (placeOf row) ⌝ }
+{
+    let place = table_rows::place_of(row);
+    let count = place.count;
+    let phase = place.phase;
+    let position = table_rows::position_of(phase);
+    let code = table_rows::code_of(phase);
+    if memory::limit(sizes) < count {
+        return false;
+    }
+    if code != row[1] {
+        return false;
+    }
+    if position != table_rows::wide(row[2]) {
+        return false;
+    }
+    if is_idle(phase) {
+        return count == 0;
+    }
+    position <= count
+}
+
+// §10.8: the first entry by which a task in this phase may own a record, past them all where a phase owns none.
+fn owns_in(sizes: Sizes, phase: Phase) -> usize
+    ensures { λ from. ⌜ from ≡ ownsIn sizes phase ⌝ }
+{
+    let none = memory::limit(sizes);
+    match phase {
+        Phase::Idle => none,
+        Phase::Open => none,
+        Phase::Taking(_, _) => 0,
+        Phase::Asleep => 0,
+        Phase::Writing(_) => 0,
+        Phase::Releasing(_, position) => position,
+    }
+}
+
+// The same of a task's row.
+pub fn owns_from(sizes: Sizes, row: PlaceRow) -> usize
+    requires { ⌜ placeOk sizes row (placeOf row) ≡ true ⌝ }
+    ensures { λ from. ⌜ from ≡ ownsFrom sizes (placeOf row) ⌝ }
+{
+    let place = table_rows::place_of(row);
+    let phase = place.phase;
+    owns_in(sizes, phase)
+}

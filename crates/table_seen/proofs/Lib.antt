@@ -1,0 +1,2 @@
+-- What the look-up answers.
+pub mod Looks

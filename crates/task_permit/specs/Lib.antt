@@ -1,0 +1,2 @@
+-- What the functions of a permit are held to.
+pub mod Contract
