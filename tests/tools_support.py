@@ -103,7 +103,7 @@ def wait_for_each_other(top, env):
     (top / "log").unlink()
     began = time.monotonic()
     words = {"cwd": top, "stdout": subprocess.DEVNULL, "stderr": subprocess.PIPE, "text": True}
-    first = subprocess.Popen(["tools/play", "crates.txt"], env={**env, "PAUSE": "8"}, **words)
+    first = subprocess.Popen(["tools/play", "crates.txt"], env={**env, "PAUSE": "4"}, **words)
     first.stderr.readline()
     same("the first line comes within 5 seconds", time.monotonic() - began < 5, True)
     second = subprocess.Popen(["tools/play", "crates.txt"], env=env, **words)

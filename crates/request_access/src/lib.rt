@@ -23,7 +23,7 @@ fn entry_for(sizes: Sizes, entries: &[EntryRow], task: usize, count: usize, addr
 {
     let start = memory::run_start(sizes, task);
     let run = &entries[start..];
-    let at = table_look::index_of(run, count, address as u32);
+    let at = table_search::index_of(run, count, address as u32);
     request_fresh::found_at(run, count, at)
 }
 

@@ -48,7 +48,7 @@ fn entry_beside(
     let start = memory::run_start(sizes, task);
     let run = &entries[start..];
     let record = table_rows::record_of(sizes, address);
-    let at = table_look::index_on(run, count, sizes.records as u32, record as u32);
+    let at = table_search::index_on(run, count, sizes.records as u32, record as u32);
     found_at(run, count, at)
 }
 

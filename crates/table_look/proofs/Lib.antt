@@ -1,3 +1,2 @@
 -- The laws that several proofs of this crate, and its callers, cite.
-pub mod Search
 pub mod Owner

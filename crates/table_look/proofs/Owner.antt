@@ -21,7 +21,7 @@ use Rattle.memory.proofs.Tools.{in-getD}
 use Rattle.memory.proofs.Find.{index-some}
 use Rattle.memory.proofs.Stores.{run-length, run-at}
 use Rattle.memory.proofs.Facts.{some-record, run-fits, owner-task, owner-entry}
-use Rattle.table_look.proofs.Search.{entries-length, entry-at}
+use Rattle.table_search.proofs.Search.{entries-length, entry-at}
 
 -- a table from a place on
 pub from-on : {A : Type 0} (l : List A) (s : ℕ) → take (length l - s) (drop s l) ≡ drop s l

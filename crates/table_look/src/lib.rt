@@ -1,11 +1,11 @@
-// The search for an entry, and the look-up of an address, on a table known to be sound.
+// The look-up of an address, on a table known to be sound.
 ghost use mathlib.Core.Path.{_≡_};
 ghost use mathlib.Core.List.{map};
 ghost use mathlib.Core.Bool.{true};
 ghost use Prim.Native.Nat.{_<_, _≤_, _%_};
 ghost use lib.ListN.{length, take};
 ghost use Rattle.memory.specs.Pieces.{memory, entryOf, committed};
-ghost use Rattle.memory.specs.Logical.{indexOf, indexOn, shows, ownedAt, logical};
+ghost use Rattle.memory.specs.Logical.{indexOn, shows, ownedAt, logical};
 ghost use Rattle.memory.specs.Sound.{sound};
 use memory::EntryRow;
 use memory::Held;
@@ -14,36 +14,6 @@ use memory::Phase;
 use memory::PlaceRow;
 use memory::Seen;
 use memory::Sizes;
-
-// Where the entry for an address stands among the first n of a run; n if there is none.
-pub fn index_of(run: &[EntryRow], n: usize, address: u32) -> usize
-    requires { ⌜ n ≤ length (now run) ⌝ }
-    ensures { λ r. ⌜ r ≡ indexOf address (map entryOf (take n (now (run .entry)))) ⌝ }
-{
-    let mut at = 0;
-    while at < n {
-        if run[at][0] == address {
-            return at;
-        }
-        at += 1;
-    }
-    at
-}
-
-// The same for the first entry on a record.
-pub fn index_on(run: &[EntryRow], n: usize, records: u32, record: u32) -> usize
-    requires { ⌜ (n ≤ length (now run)) × (0 < records) ⌝ }
-    ensures { λ r. ⌜ r ≡ indexOn records «record» (map entryOf (take n (now (run .entry)))) ⌝ }
-{
-    let mut on = 0;
-    while on < n {
-        if run[on][0] % records == record {
-            return on;
-        }
-        on += 1;
-    }
-    on
-}
 
 // §2.12: whether a transaction in this phase counts as committed.
 pub fn is_committed(phase: Phase) -> bool
@@ -76,11 +46,11 @@ fn owned_at(records: u32, done: bool, run: &[EntryRow], n: usize, address: u32, 
     requires { ⌜ (n ≤ length (now run)) × (0 < records) × (indexOn records (address % records) (map entryOf (take n (now run))) < n) ⌝ }
     ensures { λ r. ⌜ r ≡ ownedAt records done (map entryOf (take n (now (run .entry)))) address word ⌝ }
 {
-    let at = index_of(run, n, address);
+    let at = table_search::index_of(run, n, address);
     if at < n {
         shown(run[at], done)
     } else {
-        let on = index_on(run, n, records, address % records);
+        let on = table_search::index_on(run, n, records, address % records);
         let owner = shown(run[on], done);
         Seen {
             value: word,

@@ -90,6 +90,13 @@ pub fn record_of(sizes: Sizes, by: usize, entry: EntryRow) -> usize
     address - quotient * sizes.records
 }
 
+// The greater of two addresses.
+pub fn greater(one: u32, other: u32) -> u32
+    ensures { λ r. ⌜ (one ≤ r) × (other ≤ r) ⌝ }
+{
+    if one < other { other } else { one }
+}
+
 // §10.7, §10.8: what a record holds, where it is known whether its owner has an entry on it.
 pub fn record_ok(number: u32, owned: bool) -> bool
     ensures { λ r. ⌜ r ≡ recordOk (heldOf number) owned ⌝ }

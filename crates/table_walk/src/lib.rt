@@ -25,13 +25,6 @@ fn records_ok(records: &[u32], owned: &[bool]) -> bool
     faults == 0
 }
 
-// The greater of two addresses.
-fn greater(one: u32, other: u32) -> u32
-    ensures { λ r. ⌜ (one ≤ r) × (other ≤ r) ⌝ }
-{
-    if one < other { other } else { one }
-}
-
 // Each task's row and entries, and then the records. Three tables save work: `told` has the address of each entry of the task that
 // was passed; `met` has for each record the last entry on it of the last task with one, counted from that task's `base`, so that
 // only an entry on a record that its task has met is held against others: its versions against that one's, since all before it
@@ -83,7 +76,7 @@ pub fn tables_ok(
                 if !table_parts::agree(other, entry) {
                     break 'tasks;
                 }
-                top = greater(top, other[0]);
+                top = table_parts::greater(top, other[0]);
                 if entry[0] <= top {
                     let until = i % memory::MOST_ENTRIES;
                     let mut j: usize = 0;

@@ -6,10 +6,10 @@ use memory::Looked;
 use memory::PlaceRow;
 use std::num::wrapping_add_u32;
 use std::num::wrapping_add_usize;
-use try_calls::AnyCall;
-use try_calls::Lent;
-use try_calls::get;
-use try_calls::put;
+use try_serial::asked::AnyCall;
+use try_serial::asked::Lent;
+use try_serial::asked::get;
+use try_serial::asked::put;
 
 const WORDS: usize = memory::MOST_WORDS + 1;
 

@@ -12,8 +12,8 @@ use memory::Call;
 use memory::Looked;
 use std::num::wrapping_add_u32;
 use std::num::wrapping_sub_usize;
-use try_calls::AnyCall;
-use try_calls::Lent;
+use try_serial::asked::AnyCall;
+use try_serial::asked::Lent;
 
 // What a call answered, and what it changed.
 struct Seen {

@@ -3,9 +3,9 @@ use crate::board;
 use crate::line::Line;
 use memory::Call;
 use table_rows::wide;
-use try_calls::AnyCall;
-use try_calls::Lent;
 use try_calls::exactly;
+use try_serial::asked::AnyCall;
+use try_serial::asked::Lent;
 
 const OP: u32 = 256 * b'O' as u32 + b'P' as u32;
 

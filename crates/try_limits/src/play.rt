@@ -7,9 +7,9 @@ use crate::marks;
 use crate::marks::Act;
 use crate::telling::say;
 use crate::telling::say_part;
-use try_calls::Lent;
 use try_calls::exactly;
-use try_calls::put;
+use try_serial::asked::Lent;
+use try_serial::asked::put;
 
 fn say_sentence(script: &[u8], line: Line) {
     let told = line.told;

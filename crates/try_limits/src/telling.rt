@@ -3,7 +3,7 @@ use crate::board::Changed;
 use libc::STDOUT_FILENO;
 use memory::Call;
 use memory::Looked;
-use try_calls::AnyCall;
+use try_serial::asked::AnyCall;
 
 pub fn say(text: &[u8]) {
     io::write_all(STDOUT_FILENO, text);

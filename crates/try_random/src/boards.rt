@@ -3,9 +3,9 @@ use crate::dice::draw;
 use crate::dice::from_one;
 use crate::dice::moment;
 use std::num::wrapping_add_usize;
-use try_calls::Lent;
 use try_calls::exactly;
-use try_calls::narrow;
+use try_serial::asked::Lent;
+use try_serial::asked::narrow;
 use try_serial::limits;
 
 // What is drawn of a board.

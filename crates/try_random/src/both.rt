@@ -6,7 +6,7 @@ use memory::Seen;
 use memory::Sizes;
 use std::num::wrapping_add_u32;
 use table_rows::wide;
-use try_calls::Lent;
+use try_serial::asked::Lent;
 use try_serial::ledger;
 
 // Is what an address has what the second machine's board has there?

@@ -2,7 +2,7 @@
 // handed on.
 use std::num::wrapping_add_u32;
 use table_rows::wide;
-use try_calls::narrow;
+use try_serial::asked::narrow;
 
 const SEED: u32 = 20031026;
 

@@ -6,9 +6,9 @@ use crate::dice::moment;
 use memory::Call;
 use memory::Sizes;
 use std::num::wrapping_add_usize;
-use try_calls::AnyCall;
-use try_calls::Lent;
-use try_calls::narrow;
+use try_serial::asked::AnyCall;
+use try_serial::asked::Lent;
+use try_serial::asked::narrow;
 use try_serial::ledger;
 
 // What is drawn of a call.

@@ -2,7 +2,7 @@
 use crate::drawn::Turn;
 use std::num::wrapping_add_u32;
 use table_rows::wide;
-use try_calls::narrow;
+use try_serial::asked::narrow;
 
 pub struct Tally {
     pub schedules: u32,

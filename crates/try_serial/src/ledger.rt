@@ -2,11 +2,11 @@
 // version for each record, which a transaction changes all at once at its deciding step, so that no word is looked up through
 // an owner. Beside the board each task has its log, an address and a value a line, and three numbers for each record: the version
 // that the task saw there (0: none), whether it wrote there, and whether it holds it. All stand in one slice of numbers, `m`.
+use crate::asked::get;
+use crate::asked::narrow;
+use crate::asked::put;
 use crate::limits;
 use std::num::wrapping_add_u32;
-use try_calls::get;
-use try_calls::narrow;
-use try_calls::put;
 
 pub const IDLE: u32 = 0;
 

@@ -1,15 +1,16 @@
 // A second machine: §5 to §7 once more, over structures of its own and with none of the memory's code.
 // It keeps the serial board itself. It is asked as the memory is, by a call and by how the tables would be lent to it.
+pub mod asked;
 pub mod ledger;
 pub mod limits;
 mod machine;
 
+use asked::AnyCall;
+use asked::Lent;
 use machine::plain;
 use memory::Call;
 use memory::Looked;
 use memory::Sizes;
-use try_calls::AnyCall;
-use try_calls::Lent;
 
 fn within(n: usize, most: usize) -> bool {
     1 <= n && n <= most

@@ -1,4 +1,4 @@
--- `table_look::index_on` meets its contract: none of the rows before the counter is on the record.
+-- `table_search::index_on` meets its contract: none of the rows before the counter is on the record.
 use Prim.Native.Nat.{_-_, _%_}
 use native.Mathlib.Omega.{arith}
 use lib.Dec.{eqb}
@@ -6,9 +6,9 @@ use borrow.Author.Needs.{needs}
 use borrow.Author.Tests.{eq-eqb, ne-eqb}
 use Rattle.memory.specs.Pieces.{entryOf}
 use Rattle.memory.specs.Logical.{indexOn}
-use Rattle.table_look.proofs.Search.{Passed, begins, found, goes-on, ends}
-use Rattle.table_look.proofs.index_on.Statement.{statement}
-use Rattle.table_look.proofs.index_on.Tie as tie
+use Rattle.table_search.proofs.Search.{Passed, begins, found, goes-on, ends}
+use Rattle.table_search.proofs.index_on.Statement.{statement}
+use Rattle.table_search.proofs.index_on.Tie as tie
 
 abbrev Inv-loop : tie.InvT-loop
 Inv-loop run n records «record» on₀ on = Passed (λ e. eqb (e .address % records) «record») run n on

@@ -1,4 +1,4 @@
--- `table_look::index_of` meets its contract: none of the rows before the counter holds the address.
+-- `table_search::index_of` meets its contract: none of the rows before the counter holds the address.
 use Prim.Native.Nat.{_-_}
 use native.Mathlib.Omega.{arith}
 use lib.Dec.{eqb}
@@ -6,9 +6,9 @@ use borrow.Author.Needs.{needs}
 use borrow.Author.Tests.{eq-eqb, ne-eqb}
 use Rattle.memory.specs.Pieces.{entryOf}
 use Rattle.memory.specs.Logical.{indexOf}
-use Rattle.table_look.proofs.Search.{Passed, begins, found, goes-on, ends}
-use Rattle.table_look.proofs.index_of.Statement.{statement}
-use Rattle.table_look.proofs.index_of.Tie as tie
+use Rattle.table_search.proofs.Search.{Passed, begins, found, goes-on, ends}
+use Rattle.table_search.proofs.index_of.Statement.{statement}
+use Rattle.table_search.proofs.index_of.Tie as tie
 
 abbrev Inv-loop : tie.InvT-loop
 Inv-loop run n address at₀ at = Passed (λ e. eqb (e .address) address) run n at
