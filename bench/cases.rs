@@ -67,13 +67,22 @@ impl Scene {
         scene
     }
 
-    /// All other tasks have a transaction open with this many entries.
+    /// All other tasks have a transaction open with this many entries, their addresses ascending.
     pub fn busy(words: usize, records: usize, tasks: usize, entries: usize) -> Scene {
+        Scene::busy_in_order(words, records, tasks, 0..entries)
+    }
+
+    /// The same with all entries that there may be, their addresses descending.
+    pub fn busy_downwards(words: usize, records: usize, tasks: usize) -> Scene {
+        Scene::busy_in_order(words, records, tasks, (0..ENTRIES_PER_TASK).rev())
+    }
+
+    fn busy_in_order(words: usize, records: usize, tasks: usize, order: impl Iterator<Item = usize> + Clone) -> Scene {
         let mut scene = Scene::open(words, records, tasks);
         for task in 1..tasks {
             scene.must(task, Request::Start);
             let first = task * ENTRIES_PER_TASK;
-            (0..entries).for_each(|i| scene.must(task, Request::Read((first + i) % (words - 4))));
+            order.clone().for_each(|i| scene.must(task, Request::Read((first + i) % (words - 4))));
         }
         scene
     }

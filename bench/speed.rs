@@ -45,7 +45,11 @@ struct Boards {
     evening: Scene,
     full: Scene,
     crowded: Scene,
+    downwards: Scene,
 }
+
+/// The names of the boards in the order in which a turn measures them.
+const TURN: [&str; 6] = ["small", "club", "evening", "full", "crowded", "crowded, descending"];
 
 fn boards() -> Boards {
     Boards {
@@ -54,6 +58,7 @@ fn boards() -> Boards {
         evening: Scene::evening(26),
         full: Scene::busy(MOST_WORDS, MOST_RECORDS, MOST_TASKS, ENTRIES_PER_TASK),
         crowded: Scene::busy(MOST_WORDS, 1, MOST_TASKS, ENTRIES_PER_TASK),
+        downwards: Scene::busy_downwards(MOST_WORDS, 1, MOST_TASKS),
     }
 }
 
@@ -139,13 +144,13 @@ fn transactions(boards: &Boards) -> String {
 
 /// What one archive costs on each board: a look-up and the transaction, a line for each board.
 fn turn(boards: &Boards) -> String {
-    let all = [&boards.small, &boards.club, &boards.evening, &boards.full, &boards.crowded];
+    let all = [&boards.small, &boards.club, &boards.evening, &boards.full, &boards.crowded, &boards.downwards];
     all.map(|scene| format!("{} {}\n", scene.look(), checked_transaction(scene))).concat()
 }
 
 /// The fastest of several turns of two programs, which are this one with two archives.
 fn by_turns(programs: [&str; 2]) -> Option<[Vec<f64>; 2]> {
-    let mut best = [vec![f64::INFINITY; 10], vec![f64::INFINITY; 10]];
+    let mut best = [vec![f64::INFINITY; 2 * TURN.len()], vec![f64::INFINITY; 2 * TURN.len()]];
     for _ in 0..5 {
         for (best, program) in best.iter_mut().zip(programs) {
             eprintln!("bench: a turn of {program}");
@@ -171,7 +176,7 @@ fn beside() -> String {
         The ratio is this archive's time divided by the other's.\n\n\
         | Board | Look-up there | Here | Ratio | Transaction there | Here | Ratio |\n|---|---|---|---|---|---|---|\n"
     );
-    for (i, board) in ["small", "club", "evening", "full", "crowded"].into_iter().enumerate() {
+    for (i, board) in TURN.into_iter().enumerate() {
         let (look, whole) = (2 * i, 2 * i + 1);
         let pair = |k: usize| format!("{:.0} | {:.0} | {:.2}", before[k], now[k], now[k] / before[k]);
         text += &format!("| {board} | {} | {} |\n", pair(look), pair(whole));
