@@ -15,7 +15,7 @@ use Rattle.memory.specs.Requests.{write, store, added, written, rewrite}
 use Rattle.task_descriptor.specs.Contract.{Within, grown}
 use Rattle.request_fresh.specs.declared.Access.the-variants.{Known, New}
 use Rattle.request_access.specs.Contract.{Accesses}
-use Rattle.request_read.proofs.Reached.{adds}
+use Rattle.request_access.proofs.Added.{adds}
 
 -- what the code needs of a task's entries, of fewer of them
 pub fewer : {z : Sizes} {table : List (List ℕ)} {t n k : ℕ} → Within z table t n → k ≤ n → Within z table t k

@@ -56,9 +56,9 @@ pub record EntriesFound (z : Sizes) (m : Memory) (t n base : ℕ) (lent : Marks)
   pub wide : Wide z told now
   pub kept : Kept lent now
 
--- Before pair (j, i): none of the first j entries has the address.
-pub record PairsFound (told : List ℕ) (address i j : ℕ) : Type 0 where
-  pub within : j ≤ i
+-- Before pair (j, i), of those that are tried: none of the first j entries has the address.
+pub record PairsFound (told : List ℕ) (address until j : ℕ) : Type 0 where
+  pub within : j ≤ until
   pub others : (k : ℕ) → k < j → getD told k 0 ≡ address → ⊥
 
 -- The task at hand: its row is right, and says how many entries it has and from which on it may own a record; where its run starts, and

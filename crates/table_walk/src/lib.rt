@@ -31,7 +31,7 @@ fn records_ok(records: &[u32], owned: &[bool]) -> bool
 // agree, and its address against all; `owned` has the records whose owner was found to have an entry on them, so that no record is
 // searched for. What earlier tasks left in `met` is below `base`, and so is 0, for none. `top` is the greatest address of the entries
 // that another one of the task has followed on their record: an address above it is that of no entry before it on its record, and so
-// of none, and no pair is tried. The pairs go to `until`, which is i, in a form that tells the compiler how small it is.
+// of none, and no pair is tried.
 pub fn tables_ok(
     sizes: Sizes,
     records: &[u32],
@@ -54,7 +54,6 @@ pub fn tables_ok(
         }
         let n = place[0] as usize;
         let from = table_places::owns_from(sizes, place);
-        let owner = memory::FIRST_OWNER + t as u32;
         let base = memory::run_start(sizes, t + 1);
         let start = memory::run_start(sizes, t);
         let run = &entries[start..];
@@ -70,31 +69,22 @@ pub fn tables_ok(
             let record = table_parts::record_of(sizes, by, entry);
             let address = entry[0] as u16;
             let seen = met[record] as usize;
-            if base <= seen {
-                let at = seen - base;
-                let other = run[at];
-                if !table_parts::agree(other, entry) {
+            let found = table_pairs::hold_against(run, base, seen, top, i, entry);
+            if found.fault {
+                break 'tasks;
+            }
+            top = found.top;
+            let until = found.until;
+            let mut j: usize = 0;
+            'pairs: while j < until {
+                if told[j] == address {
                     break 'tasks;
                 }
-                top = table_parts::greater(top, other[0]);
-                if entry[0] <= top {
-                    let until = i % memory::MOST_ENTRIES;
-                    let mut j: usize = 0;
-                    'pairs: while j < until {
-                        if told[j] == address {
-                            break 'tasks;
-                        }
-                        j += 1;
-                    }
-                }
+                j += 1;
             }
             told[i] = address;
             met[record] = (base + i) as u16;
-            if from <= i {
-                if records[record] == owner {
-                    owned[record] = true;
-                }
-            }
+            table_pairs::mark_owned(records, owned, record, t, from, i);
             i += 1;
         }
         t += 1;

@@ -4,7 +4,8 @@ use Rattle.memory.specs.Numbers.{reply}
 use Rattle.memory.specs.Requests.{read}
 use Rattle.memory.proofs.Facts.{in-places}
 use Rattle.request_phase.proofs.Granted.{answered}
-use Rattle.request_read.proofs.Reached.{access, read-known, read-new, addable}
+use Rattle.request_access.proofs.Added.{access, addable}
+use Rattle.request_read.proofs.Reached.{read-known, read-new}
 use borrow.Author.Needs.{needs}
 use Rattle.request_read.proofs.read_sound.Statement.{statement}
 use Rattle.request_read.proofs.read_sound.Tie as tie

@@ -6,7 +6,7 @@ use Rattle.memory.specs.Requests.{write}
 use Rattle.memory.proofs.Facts.{in-places, words-most}
 use Rattle.task_descriptor.proofs.Entries.{within}
 use Rattle.request_phase.proofs.Granted.{answered}
-use Rattle.request_read.proofs.Reached.{access, addable}
+use Rattle.request_access.proofs.Added.{access, addable}
 use Rattle.request_write.proofs.Stored.{write-known, write-new}
 use borrow.Author.Needs.{needs}
 use Rattle.request_write.proofs.write_sound.Statement.{statement}

@@ -7,8 +7,8 @@ mod Ends
 use borrow.Author.Needs.{needs}
 use Loops.{Inv-pairs, μ-pairs, Inv-entries, μ-entries, Inv-tasks, μ-tasks, walk}
 use Tasks.{tasks-holds, cast-n, owns-from-requires, base-requires, start-requires, mul-run, sub-run, part-run-start, entries-holds, tasks-again}
-use Entries.{shared-slice-copy-out-entry, record-of-requires, cast-address, slice-read-seen, cast-seen, slice-write-met, slice-write-owned, entries-again}
-use Pairs.{mul-other, shared-slice-copy-out-other, pairs-holds, pairs-again}
+use Entries.{shared-slice-copy-out-entry, record-of-requires, cast-address, slice-read-seen, cast-seen, mul-told, array-write-told, mul-met, slice-write-met, mark-owned-requires, entries-again}
+use Pairs.{hold-against-requires, pairs-holds, mul-tried, array-read-tried, pairs-again}
 use Ends.{ended, records-ok-requires, returns, returns-2}
 use Rattle.table_walk.proofs.Answer.{answer}
 use Rattle.table_walk.proofs.tables_ok.Statement.{statement}
@@ -32,8 +32,6 @@ tables-ok-spec =
     (answer (walk tie.Need-array-read-n) (λ c. search needs))
     cast-n
     owns-from-requires
-    (answer (walk tie.Need-cast-owner) (λ c. search needs))
-    (answer (walk tie.Need-add-owner) (λ c. search needs))
     (answer (walk tie.Need-add-run-start) (λ c. search needs))
     base-requires
     start-requires
@@ -51,27 +49,20 @@ tables-ok-spec =
     (answer (walk tie.Need-mul-seen) (λ c. search needs))
     slice-read-seen
     cast-seen
-    mul-other
-    shared-slice-copy-out-other
-    (answer (walk tie.Need-agree-requires) (λ c κs. search needs))
-    (answer (walk tie.Need-array-read-greater) (λ c. search needs))
-    (answer (walk tie.Need-greater-requires) (λ c κs. search needs))
-    (answer (walk tie.Need-array-read-if6) (λ c. search needs))
+    hold-against-requires
     pairs-holds
-    (answer (walk tie.Need-mul-if7) (λ c. search needs))
-    (answer (walk tie.Need-array-read-if7) (λ c. search needs))
+    mul-tried
+    array-read-tried
     (answer (walk tie.Need-add-j) (λ c. search needs))
     (answer (walk tie.Need-pairs-less) (λ c. search needs))
     pairs-again
-    (answer (walk tie.Need-mul-told) (λ c. search needs))
-    (answer (walk tie.Need-array-write-told) (λ c. search needs))
+    mul-told
+    array-write-told
     (answer (walk tie.Need-add-met) (λ c. search needs))
     (answer (walk tie.Need-cast-met) (λ c. search needs))
-    (answer (walk tie.Need-mul-met) (λ c. search needs))
+    mul-met
     slice-write-met
-    (answer (walk tie.Need-mul-if9) (λ c. search needs))
-    (answer (walk tie.Need-shared-slice-read-if9) (λ c. search needs))
-    slice-write-owned
+    mark-owned-requires
     (answer (walk tie.Need-add-i) (λ c. search needs))
     (answer (walk tie.Need-entries-less) (λ c. search needs))
     entries-again

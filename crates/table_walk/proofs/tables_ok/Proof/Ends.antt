@@ -1,8 +1,9 @@
 -- The walk is over, at its end or at the first fault: what it answers, and that the lent tables keep their lengths.
 use native.Mathlib.Omega.{arith}
 use mathlib.Core.Path.{sym, _∙_}
+use mathlib.Core.Bool.{false≢true}
 use mathlib.Core.Logic.{inl, inr}
-use borrow.Author.Tests.{ne-eqb}
+use borrow.Author.Tests.{ne-eqb, not-true}
 use Rattle.memory.specs.Pieces.{entryOf}
 use Rattle.table_walk.specs.Walk.{tablesOk}
 use Rattle.table_parts.proofs.Tests.{refused, passed, and-then, and-stop}
@@ -30,25 +31,28 @@ ended c =
             kept = kept-as met owned (kept-then (f .kept) (entries .inv .kept));
             how = inr (entry-fault t (more .taken) (refused (entry .ensures) (wrong .taken)));
           }
-      | inr (inr (inr (inl (test, _, row, right, owns, base, start, _, entries, more, _, entry, good, on, _, below, _, agree, wrong, met, owned)))) ↦
+      | inr (inr (inr (inl (test, _, row, right, owns, base, start, _, entries, more, _, entry, good, on, _, held, wrong, met, owned)))) ↦
           let t = task-of g (test .taken) (passed (row .ensures) (right .left)) (owns .ensures) (base .ensures) (start .ensures) in
           let e = at-entry t (entries .inv) (more .taken) (passed (entry .ensures) (good .left)) (on .ensures .0) (on .ensures .1) in
           record {
             kept = kept-as met owned (kept-then (f .kept) (entries .inv .kept));
-            how = inr (versions-fault e (below .taken) (refused (agree .ensures) (wrong .taken)));
+            how = inr (elim (held .ensures .1) [
+              | inl new ↦ absurd (false≢true (sym (new .good) ∙ wrong .taken))
+              | inr found ↦ versions-fault e (found .some) (not-true _ (sym (found .versions) ∙ wrong .taken))
+            ]);
           }
-      | inr (inr (inr (inr (test, _, row, right, owns, base, start, _, entries, more, _, entry, good, on, _, _, _, _, _, _, _, pairs, again, equal, met, owned)))) ↦
+      | inr (inr (inr (inr (test, _, row, right, owns, base, start, _, entries, more, _, entry, good, on, _, held, _, pairs, again, equal, met, owned)))) ↦
           let t = task-of g (test .taken) (passed (row .ensures) (right .left)) (owns .ensures) (base .ensures) (start .ensures) in
           let e = at-entry t (entries .inv) (more .taken) (passed (entry .ensures) (good .left)) (on .ensures .0) (on .ensures .1) in
           record {
             kept = kept-as met owned (kept-then (f .kept) (entries .inv .kept));
-            how = inr (address-fault e (pairs .j) (omega (arith, again .taken, e .more, e .found .most)) (equal .taken));
+            how = inr (address-fault e (pairs .j) (omega (arith, again .taken, held .ensures .0)) (equal .taken));
           }
     ]
 
 -- past the test that the walk went to its end
-all-good : (c : walk tie.Then10) → let j = c .before .before in let k = over j in Passed (z k) (m k) (k .tasks .t) (j .if1 .owned)
-all-good c = elim (ended (c .before .before) .how) [ inl w ↦ w | inr w ↦ absurd (omega (arith, w .known, c .if10 .taken)) ]
+all-good : (c : walk tie.Then6) → let j = c .before .before in let k = over j in Passed (z k) (m k) (k .tasks .t) (j .if1 .owned)
+all-good c = elim (ended (c .before .before) .how) [ inl w ↦ w | inr w ↦ absurd (omega (arith, w .known, c .if6 .taken)) ]
 
 pub records-ok-requires : walk tie.Need-records-ok-requires
 records-ok-requires c κs =
@@ -64,6 +68,6 @@ pub returns-2 : walk tie.Need-returns-2
 unfolding tablesOk
 returns-2 c =
     elim (ended (c .before .before) .how) [
-      | inl w ↦ absurd (c .if10 .left (w .over))
-      | inr w ↦ and-stop _ (w .wrong) (ne-eqb _ _ (c .if10 .left) ∙ sym (w .wrong))
+      | inl w ↦ absurd (c .if6 .left (w .over))
+      | inr w ↦ and-stop _ (w .wrong) (ne-eqb _ _ (c .if6 .left) ∙ sym (w .wrong))
     ]

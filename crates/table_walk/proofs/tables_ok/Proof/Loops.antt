@@ -21,17 +21,18 @@ abbrev pub marks : List ℕ → List Bool → Marks
 marks met owned = record { met = met; owned = owned }
 
 abbrev pub Inv-pairs : tie.InvT-pairs
-Inv-pairs sizes records places entries met owned by told t n from owner base start run top i «record» address seen at until j₀ j = PairsFound told address i j
+Inv-pairs sizes records places entries met owned by told t n from base start run top i «record» address seen until j₀ j =
+    PairsFound told address until j
 
 abbrev pub μ-pairs : tie.MeasureT-pairs
-μ-pairs sizes records places entries met owned by told t n from owner base start run top i «record» address seen at until j₀ j = i - j
+μ-pairs sizes records places entries met owned by told t n from base start run top i «record» address seen until j₀ j = until - j
 
 abbrev pub Inv-entries : tie.InvT-entries
-Inv-entries sizes records places entries met₀ owned₀ by told₀ t n from owner base start run top₀ i₀ met owned told top i =
+Inv-entries sizes records places entries met₀ owned₀ by told₀ t n from base start run top₀ i₀ met owned told top i =
     EntriesFound sizes (lent records places entries) t n base (marks met₀ owned₀) told (marks met owned) top i
 
 abbrev pub μ-entries : tie.MeasureT-entries
-μ-entries sizes records places entries met₀ owned₀ by told₀ t n from owner base start run top₀ i₀ met owned told top i = n - i
+μ-entries sizes records places entries met₀ owned₀ by told₀ t n from base start run top₀ i₀ met owned told top i = n - i
 
 abbrev pub Inv-tasks : tie.InvT-tasks
 Inv-tasks sizes records places entries met₀ owned₀ by told₀ t₀ met owned told t =
@@ -116,3 +117,8 @@ module _ (c : walk tie.After-record-of) where
   entry =
       at-entry (task its-task) (of-entry .entries .inv) (c .before .before .before .before .entries-test .taken)
       (passed (c .before .before .entry-ok .ensures) (c .before .if3 .left)) (c .record-of .ensures .0) (c .record-of .ensures .1)
+
+-- the same, held against those before it
+module _ (c : walk tie.After-hold-against) where
+  abbrev pub on-record : walk tie.After-record-of
+  on-record = c .before .before
