@@ -110,6 +110,43 @@ def make_session(room):
     same("a comment behind a record", (done.returncode, done.stdout, done.stderr), (0, b"ST\0SP\1SP\1", b""))
 
 
+# ---- tools/sheet, and a text that is played
+
+
+def sheets(room):
+    """Text to session and back, byte for byte. A refusal is one line, with nothing on standard output."""
+    sheet, sample = "tools/sheet", TOP / "samples/woken-label"
+    wrong = "tools/sheet: say read or write, and nothing else; --help says more"
+    for words in ([], ["copy"], ["read", "game.csv"]):
+        says([sheet, *words], 2, wrong)
+    says(["sh", "-c", "tools/sheet read <&-"], 2, "tools/sheet: standard input is closed")
+    text, session = (sample.with_suffix(end).read_bytes() for end in (".csv", ".session"))
+    # Built now, if it was not, with its progress for all to hear.
+    subprocess.run([TOP / sheet, "read"], input=b"", stdout=subprocess.DEVNULL, check=False)
+    for way, given, made in (("read", text, session), ("write", session, text), ("read", b"", b"")):
+        done = subprocess.run([TOP / sheet, way], input=given, capture_output=True, check=False)
+        same(f"{sheet} {way} of {len(given)} bytes", (done.returncode, done.stdout, done.stderr), (0, made, b""))
+    no_field = "a number is missing, is not all digits or is too large, or a field that is not used is not empty"
+    no_room = "with this line the session is longer than 60,000 bytes"
+    for way, given, where in (
+        ("read", b"SP,0,,\n", "line 1 is refused with the number 30: a quote, a CR or an LF stands where it may not; a line ends in CR LF"),
+        ("read", b"SP,0\r\n", "line 1 is refused with the number 31: the number of fields is wrong: a BD has five, every other line four"),
+        ("read", b"SP,0,,\r\nSP,x,,\r\n", f"line 2 is refused with the number 32: {no_field}"),
+        ("read", b'"a\r\nb",,,\r\n', "line 1 is refused with the number 33: the first field is no mark"),
+        ("read", b"SP,0,,\r\n" * 20_001, f"line 20001 is refused with the number 34: {no_room}"),
+        ("write", BOARD + b"XX", "record 1 is refused with the number 10: its mark is unknown"),
+        ("write", b"", "record 0 is refused with the number 11: the session ends before the record does"),
+        ("write", BOARD * 2, "record 1 is refused with the number 12: the first record is not BD, or a later one is"),
+        ("write", bytes(60_001), "record 0 is refused with the number 14: the session is longer than 60,000 bytes"),
+    ):
+        says([sheet, way], 1, f"tools/sheet: {where}", given)
+    played = run(["tools/play", sample.with_suffix(".session")])
+    same("tools/play of a text", run(["tools/play", sample.with_suffix(".csv")]), played)
+    (room / "bad.csv").write_bytes(b"BD,4\r\n")
+    refused = "line 1 is refused with the number 31: the number of fields is wrong: a BD has five, every other line four"
+    says(["tools/play", room / "bad.csv"], 1, f"tools/sheet: {refused}")
+
+
 # ---- the evening and the other examples
 
 
@@ -190,10 +227,12 @@ def examples(room):
 
 
 def tools():
-    for name in ("tools/play", "tools/archive", "tools/embed", "tools/evening", ".ci/run"):
+    for name in ("tools/play", "tools/sheet", "tools/archive", "tools/embed", "tools/evening", ".ci/run"):
         helps([name], name)
     helps(["tools/make-session"], "Makes a session file from a schedule in text.")
     helps(["tests/tools.py"], "Tries every tool and example")
+    helps(["tests/sheet.py"], "usage: sheet.py")
+    says(["tests/sheet.py", "--fast"], 2, "tests/sheet.py: unrecognized arguments: --fast")
     for name in ("tools/archive", "tools/embed", ".ci/run", "tests/tools.py"):
         says([name, "--fast"], 2, f"{name}: it takes no argument, and --fast was given")
 
@@ -234,6 +273,7 @@ def main():
             ("two builds at once", lambda: wait_for_each_other(top, env)),
             ("the gate's order", lambda: gate(top, env)),
             ("sessions", lambda: play_sessions(room)),
+            ("comma-separated text", lambda: sheets(room)),
             ("the examples", lambda: examples(room)),
             ("versions", versions),
         ):

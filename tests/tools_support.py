@@ -121,10 +121,12 @@ def gate(top, env):
     script(top / "bin/rt", '#!/bin/sh\necho "rt $*"\necho "${VERDICT:-3 passed, 0 failed}"\n[ -z "${VERDICT:-}" ]\n')
     script(top / "tools/embed", '#!/bin/sh\necho embedded\nexit "${EMBED:-0}"\n')
     script(top / "tests/tools.py", '#!/bin/sh\necho tried\nexit "${TOOLS:-0}"\n')
+    script(top / "tests/sheet.py", '#!/bin/sh\necho compared\nexit "${SHEET:-0}"\n')
     for change, status, lines in (
-        ({}, 0, ["rt ci", "3 passed, 0 failed", "embedded", "tried", "3 passed, 0 failed"]),
+        ({}, 0, ["rt ci", "3 passed, 0 failed", "embedded", "tried", "compared", "3 passed, 0 failed"]),
         ({"EMBED": "1"}, 1, ["rt ci", "3 passed, 0 failed", "embedded"]),
         ({"TOOLS": "1"}, 1, ["rt ci", "3 passed, 0 failed", "embedded", "tried"]),
+        ({"SHEET": "1"}, 1, ["rt ci", "3 passed, 0 failed", "embedded", "tried", "compared"]),
         ({"VERDICT": "2 passed, 1 failed"}, 1, ["rt ci", "2 passed, 1 failed"]),
     ):
         same(f".ci/run with {change}", run([".ci/run"], cwd=top, env={**env, **change}), (status, lines, []))

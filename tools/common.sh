@@ -79,9 +79,9 @@ announce() {
 kit() { dirname "$(dirname "$(rt doc)")"; }
 
 # Runs a program that the toolchain compiled. It is for x86-64: on another processor the toolchain's emulator runs it.
-run_compiled() { # PROGRAM
-    if [ "$(uname -m)" = x86_64 ]; then "$1"; return; fi
+run_compiled() { # PROGRAM ARGUMENTS..
+    if [ "$(uname -m)" = x86_64 ]; then "$@"; return; fi
     local lib
     lib=$(kit)/toolchain/lib
-    "$(kit)/on/$(uname -m)/toolchain/bin/qemu-x86_64" "$lib/ld-linux-x86-64.so.2" --library-path "$lib" "$1"
+    "$(kit)/on/$(uname -m)/toolchain/bin/qemu-x86_64" "$lib/ld-linux-x86-64.so.2" --library-path "$lib" "$@"
 }

@@ -4,11 +4,12 @@ use mathlib.Core.Path.{_≡_, refl}
 use mathlib.Core.List.{List, [], _∷_}
 use mathlib.Core.Bool.{Bool, true, _&&_, _||_}
 use lib.Dec.{leb, eqb}
-use lib.ListN.{getD, take}
+use lib.ListN.{length, getD, take}
 use lib.Seq.{take-nil}
 use native.Mathlib.Omega.{arith}
 use borrow.Author.Tests.{leb-true, eqb-true}
 use Rattle.memory.proofs.Tools.{and-0, and-1}
+use Rattle.session_fields.proofs.Numbers.{no-such-byte}
 use Rattle.session_marks.specs.Marks.{kinds, opens}
 use Rattle.session_marks.specs.declared.Kind.{Kind}
 use Rattle.session_marks.specs.declared.Kind.the-variants.{Open, Start, Commit, Abort, Wait, Step, Read, Write}
@@ -60,6 +61,10 @@ fits-at (w ∷ ws) (suc i) h = fits-at ws i (and-1 (fits w) (all fits ws) h)
 
 pub at-most-four : (k : Kind) (i : ℕ) → width k i ≤ 4
 at-most-four k i = fits-at (widths k) i (every (λ j. all fits (widths j)) refl k)
+
+-- a row has four numbers
+pub none-behind : (k : Kind) (i : ℕ) → 4 ≤ i → width k i ≡ 0
+none-behind k i h = no-such-byte i (widths k) (omega (arith, eqb-true (length (widths k)) 4 (every (λ j. eqb (length (widths j)) 4) refl k)))
 
 -- A number of a request stands where it stands in a WR, and is as wide: so `task`, `address` and `value` go by that row.
 abbrev alike : Kind → ℕ → Bool

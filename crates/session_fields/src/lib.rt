@@ -37,6 +37,14 @@ fn widths(kind: Kind) -> [usize; 4]
     }
 }
 
+// The bytes of one number of a body, 0 where it has none.
+pub fn width(kind: Kind, field: usize) -> usize
+    ensures { λ r. ⌜ (r ≡ spec.width kind field) × (r ≤ 4) ⌝ }
+{
+    let row = widths(kind);
+    if field < 4 { row[field] } else { 0 }
+}
+
 // Where a number of a body begins: behind those before it.
 fn offset(kind: Kind, field: usize) -> usize
     requires { ⌜ field ≤ 4 ⌝ }

@@ -1,15 +1,15 @@
--- The bytes in which a kind is found begin with its mark.
+-- The bytes in which a kind is found begin with its mark, and bytes that begin with its mark are found as it.
 use Prim.Native.Nat.{ℕ}
 use mathlib.Core.Path.{_≡_, refl, sym, ap, _∙_}
-use mathlib.Core.List.{List, [], _∷_}
+use mathlib.Core.List.{List, [], _∷_, _++_}
 use mathlib.Core.Bool.{Bool, true, false, not, false≢true}
 use lib.Dec.{ltb, eqb}
 use lib.ListN.{length, getD, take}
 use native.Mathlib.Omega.{arith}
-use borrow.Author.Tests.{eqb-true}
+use borrow.Author.Tests.{eqb-true, le-ltb}
 use Rattle.memory.specs.Pieces.{if_then_else_}
 use Rattle.memory.proofs.Tools.{and-0, and-1}
-use Rattle.session_marks.specs.Marks.{Kind, Open, Start, Commit, Abort, Wait, Step, Read, Write, Known, mark, begins, kindAmong}
+use Rattle.session_marks.specs.Marks.{Kind, Open, Start, Commit, Abort, Wait, Step, Read, Write, Known, mark, begins, kindAmong, kindAt}
 
 -- a mark has two bytes
 two-bytes : (k : Kind) → mark k ≡ getD (mark k) 0 0 ∷ getD (mark k) 1 0 ∷ []
@@ -21,6 +21,9 @@ two-bytes Wait = refl
 two-bytes Step = refl
 two-bytes Read = refl
 two-bytes Write = refl
+
+pub two-long : (k : Kind) → length (mark k) ≡ 2
+two-long k = ap length (two-bytes k)
 
 -- the mark that the bytes begin with is their first two
 begun : (k : Kind) (bytes : List ℕ) → begins bytes (mark k) ≡ true → take 2 bytes ≡ mark k
@@ -43,3 +46,18 @@ found (j ∷ ks) bytes k e = go (begins bytes (mark j)) refl e (found ks bytes k
         → (kindAmong ks bytes ≡ Known k → take 2 bytes ≡ mark k) → take 2 bytes ≡ mark k
     go true q r among = let same : j ≡ k = cc in begun j bytes q ∙ ap mark same
     go false q r among = among r
+
+enough : (a b : ℕ) (rest : List ℕ) → ltb (length (a ∷ b ∷ rest)) 2 ≡ false
+enough a b rest = le-ltb (length (a ∷ b ∷ rest)) 2 (omega arith)
+
+-- bytes that begin with a mark are found as its kind, whatever follows
+pub known : (k : Kind) (rest : List ℕ) → kindAt (mark k ++ rest) ≡ Known k
+unfolding kindAt kindAmong begins
+known Open rest = simp enough
+known Start rest = simp enough
+known Commit rest = simp enough
+known Abort rest = simp enough
+known Wait rest = simp enough
+known Step rest = simp enough
+known Read rest = simp enough
+known Write rest = simp enough

@@ -4,7 +4,7 @@ use mathlib.Core.Path.{_≡_, refl, sym, ap, _∙_, subst}
 use mathlib.Core.List.{List, [], _++_, append-assoc, append-nil}
 use mathlib.Core.Bool.{Bool, true, false}
 use lib.Dec.{eqb}
-use lib.ListN.{length, drop, length-drop}
+use lib.ListN.{length, drop}
 use native.Mathlib.Numerals.{add-one}
 use native.Mathlib.Omega.{arith}
 use Rattle.memory.specs.declared.Sizes.{Sizes}
@@ -14,7 +14,7 @@ use Rattle.session_marks.specs.declared.Kind.{Kind}
 use Rattle.session_split.specs.declared.Split.{Split}
 use Rattle.session_split.specs.declared.Split.the-variants.{Record}
 use Rattle.session_split.specs.Session.{mostBytes, body, recordLength, split}
-use Rattle.session_split.proofs.Cases.{there}
+use Rattle.session_split.proofs.Rest.{room}
 use Rattle.session_text.specs.Text.{line, Put}
 use Rattle.session_text.proofs.Laws.{follow, put-none, wider}
 use Rattle.session_ask.specs.Asking.{requested}
@@ -26,10 +26,6 @@ use Rattle.session_run.proofs.Turns.{restRun, onFrom, all-of-it, ends-h
 
 after-after : (k l : List ℕ) (r : Run) → after (k ++ l) r ≡ after k (after l r)
 after-after k l r = ap (λ (x : List ℕ). runs x (r .whole) (r .board)) (append-assoc k l (r .lines))
-
--- a record that is split off is inside the session
-pub room : (s : List ℕ) (from i : ℕ) (k : Kind) → split (eqb i 0) (drop from s) ≡ Record k → from + recordLength k ≤ length s
-room s from i k is = omega (arith, there (eqb i 0) (drop from s) k is .whole, length-drop from s)
 
 module _ (s : List ℕ) (z : Sizes) (v : ℕ) (m₀ : Memory) (out₀ : List ℕ) where
   pub record Under (m : Memory) (out : List ℕ) (from i at : ℕ) : Type 0 where

@@ -9,7 +9,7 @@ use Rattle.session_split.specs.declared.Split.the-variants.{Record}
 use Rattle.session_fields.specs.Fields.{firstVersion}
 use Rattle.session_split.specs.Session.{split}
 use Rattle.session_ask.specs.Asking.{sizesOf}
-use Rattle.session_run.proofs.Ends.{no-record}
+use Rattle.session_split.proofs.Rest.{no-record}
 use Rattle.session_print.proofs.Texts.{refused-text, on-tables, short-enough}
 use Rattle.session_print.proofs.Lent.{run-fits, parts-serve}
 use Rattle.session_print.proofs.run.Statement.{statement}

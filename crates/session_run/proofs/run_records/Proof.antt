@@ -3,16 +3,15 @@ use Prim.Native.Nat.{ℕ, _+_, _-_, _≤_}
 use mathlib.Core.Path.{_≡_, refl, sym, ap, _∙_}
 use mathlib.Core.List.{List}
 use lib.Dec.{eqb}
-use lib.ListN.{length, take, drop, length-drop}
-use lib.Seq.{take-all}
+use lib.ListN.{length, drop}
 use native.Mathlib.Omega.{arith}
 use denote.Ref.{now}
 use borrow.Author.Needs.{needs}
 use Rattle.session_split.specs.declared.Split.the-variants.{Record}
 use Rattle.session_split.specs.Session.{body, recordLength, split}
 use Rattle.memory.specs.Pieces.{memory}
-use Rattle.session_run.proofs.Ends.{no-record}
-use Rattle.session_run.proofs.Under.{Under, room, begin, finish, halt, turn}
+use Rattle.session_split.proofs.Rest.{no-record, part, room}
+use Rattle.session_run.proofs.Under.{Under, begin, finish, halt, turn}
 use Rattle.session_run.proofs.run_records.Statement.{statement}
 use Rattle.session_run.proofs.run_records.Tie as tie
 
@@ -32,10 +31,6 @@ Inv-loop session sizes first words₀ records₀ places₀ entries₀ out₀ fro
 abbrev μ-loop : tie.MeasureT-loop
 μ-loop session sizes first words₀ records₀ places₀ entries₀ out₀ from₀ index₀ at₀ words records places entries out from index at =
     length session - from
-
--- a part to the end of the session
-part : (s : List ℕ) (from : ℕ) → take (length s - from) (drop from s) ≡ drop from s
-part s from = take-all (length s - from) (drop from s) (omega (arith, length-drop from s))
 
 -- the loop's place, and the function's arguments, from a place in a turn
 abbrev session-of : tie.At-loop Inv-loop μ-loop → List ℕ

@@ -1,0 +1,2 @@
+-- What the contracts of the code cite besides what a byte is.
+pub mod Contract

@@ -1,0 +1,2 @@
+-- What the contracts of the code cite besides the text itself.
+pub mod Contract
