@@ -56,11 +56,16 @@ impl Scene {
 
     /// As in the evening: 160 words, 32 tasks, and this many labels asleep on three words each.
     pub fn evening(labels: usize) -> Scene {
+        Scene::listeners(labels, labels)
+    }
+
+    /// The same, where the labels have only so many tiles: the first on a tile owns its records, and the others join it.
+    pub fn listeners(labels: usize, tiles: usize) -> Scene {
         let mut scene = Scene::open(160, 160, 32);
         for label in 0..labels {
             let task = 32 - 1 - label;
             scene.must(task, Request::Start);
-            (0..3).for_each(|i| scene.must(task, Request::Read(3 * label + i)));
+            (0..3).for_each(|i| scene.must(task, Request::Read(3 * (label % tiles) + i)));
             scene.must(task, Request::Wait);
             (0..4).for_each(|_| scene.must(task, Request::Step));
         }
@@ -85,6 +90,19 @@ impl Scene {
             order.clone().for_each(|i| scene.must(task, Request::Read((first + i) % (words - 4))));
         }
         scene
+    }
+
+    /// Nanoseconds for the step of a commit that comes to the sleeper on word 0 and wakes it with its list.
+    pub fn wake(&self) -> f64 {
+        let mut tables = self.tables.clone();
+        for request in [Request::Start, Request::Write(0, 1), Request::Commit] {
+            assert_eq!(ask_library(&mut tables, self.sizes, TASK, request).number, 0);
+        }
+        let places = tables.places.clone();
+        nanoseconds(|| {
+            let _ = black_box(ask_library(&mut tables, self.sizes, TASK, black_box(Request::Step)));
+            tables.places.copy_from_slice(&places);
+        })
     }
 
     /// Nanoseconds for a look-up: the check, and very little else.

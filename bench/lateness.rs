@@ -1,4 +1,4 @@
-//! The page on lateness: reads what the two evenings printed, and writes docs/LATENESS.md and its plot.
+//! The page on lateness: reads what the evenings printed, and writes docs/LATENESS.md and its plot.
 //! `bench/lateness` runs it.
 
 mod bars;
@@ -19,6 +19,8 @@ struct Figures {
     longest: BTreeMap<String, (u64, u64)>,
     /// overtaken, undone, not said
     changes: [u64; 3],
+    /// changes that the braille line showed, and sleepers that were woken by one that only listened
+    listening: [u64; 2],
 }
 
 fn read(file: &str) -> Figures {
@@ -33,6 +35,7 @@ fn read(file: &str) -> Figures {
                 figures.longest.insert(name.to_string(), (number(calls), number(time)));
             }
             ["changes", overtaken, undone, unsaid] => figures.changes = [overtaken, undone, unsaid].map(number),
+            ["listening", shown, woken] => figures.listening = [shown, woken].map(number),
             _ => {}
         }
     }
@@ -102,6 +105,21 @@ fn longest(figures: &Figures, what: &str) -> String {
     }
 }
 
+/// What came of the evenings with two listeners on each tile.
+fn two_listeners(figures: &Figures) -> String {
+    let within = |histogram: &Histogram| [500, 990, 1000].map(|part| within(histogram, part));
+    let ([shown, woken], [half, most, latest], round) =
+        (figures.listening, within(&figures.calls), within(&figures.rounds)[2]);
+    format!(
+        "- The voice said {} changes, and the braille line showed {shown}.\n\
+         - {woken} sleepers were woken by one that only listened.\n\
+         - In calls: half within {half}, 99 of 100 within {most}, the latest {latest}. In rounds: the latest {round}.\n\
+         - The longest turn: {}.",
+        all(&figures.rounds),
+        longest(figures, "turn")
+    )
+}
+
 fn machine() -> String {
     let said = Command::new("lscpu").output().map(|o| String::from_utf8_lossy(&o.stdout).to_string());
     let name = said.ok().and_then(|all| {
@@ -117,12 +135,12 @@ fn machine() -> String {
 
 fn main() {
     let words: Vec<String> = std::env::args().skip(1).filter(|word| word != "--bench").collect();
-    let [evenings, before, after] = &words[..] else {
+    let [evenings, before, after, both] = &words[..] else {
         // a plain `cargo bench` comes here too
         return eprintln!("lateness: run bench/lateness, which plays the evenings first");
     };
     let docs = Path::new(env!("CARGO_MANIFEST_DIR")).join("../docs");
-    let (before, after) = (read(before), read(after));
+    let (before, after, both) = (read(before), read(after), read(both));
     let rounds = shares([&before.rounds, &after.rounds]);
     let calls = shares([&before.calls, &after.calls]);
     let page = include_str!("LATENESS.template.md")
@@ -131,6 +149,7 @@ fn main() {
         .replace("{table}", &table(&before, &after))
         .replace("{rounds}", &in_words(&rounds))
         .replace("{calls}", &in_words(&calls))
+        .replace("{both}", &two_listeners(&both))
         .replace("{before_turn}", &longest(&before, "turn"))
         .replace("{after_turn}", &longest(&after, "turn"))
         .replace("{before_round}", &longest(&before, "round"))

@@ -200,6 +200,16 @@ fn growth() -> Vec<plot::Line> {
     ]
 }
 
+/// Labels on tiles of their own, two on each, and all on one.
+fn lists() -> String {
+    let mut rows = String::new();
+    for (name, tiles) in [("a tile for each", 26), ("two on each of 13 tiles", 13), ("all on one tile", 1)] {
+        let scene = Scene::listeners(26, tiles);
+        rows += &format!("| {name} | {:.0} | {:.0} |\n", scene.look(), scene.wake());
+    }
+    rows
+}
+
 fn growth_in_words(lines: &[plot::Line]) -> String {
     let mut text = String::new();
     for line in lines {
@@ -221,6 +231,7 @@ fn main() {
     let transactions = transactions(&boards);
     let per_call = per_call(&boards);
     let club = on_the_club(&boards.club);
+    let lists = lists();
     let usual = boards.evening.look();
     let lines = growth();
     let growth = growth_in_words(&lines);
@@ -240,6 +251,7 @@ fn main() {
         .replace("{beside}", &beside)
         .replace("{calls}", per_call.trim_end())
         .replace("{club}", club.trim_end())
+        .replace("{lists}", lists.trim_end())
         .replace("{usual}", &format!("{usual:.0}"))
         .replace("{share}", &format!("{:.1}", usual / 1_000.0))
         .replace("{growth}", growth.trim_end());

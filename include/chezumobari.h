@@ -24,7 +24,7 @@ extern "C" {
 
 /* The version of the library. The archive, the pkg-config file and the CMake target take it from this
  * line, and a test compares the Rust package's. */
-#define CHEZUMOBARI_VERSION "0.9.0"
+#define CHEZUMOBARI_VERSION "0.10.0"
 /* The version that the archive was built as: the same text, if header and archive go together. */
 extern const char chezumobari_version[];
 
@@ -75,12 +75,13 @@ typedef struct chezumobari_looked {
     uint32_t version;
 } chezumobari_looked;
 
-/* A task's row: how many entries it has, its phase, and its position. A program may look at the
- * phase, for example to pass over a task that sleeps; it writes none of it. */
+/* A task's row: how many entries it has, its phase, its position, and the sleepers on whose lists it is.
+ * A program may look at the phase, for example to pass over a task that sleeps; it writes none of it. */
 typedef struct chezumobari_place {
     uint32_t count;
     uint32_t phase;
     uint32_t position;
+    uint32_t joins; /* a set: bit t is 1 if this task is on the list of task t */
 } chezumobari_place;
 
 #define CHEZUMOBARI_PHASE_IDLE 0
@@ -114,8 +115,8 @@ typedef struct chezumobari_entry {
      CHEZUMOBARI_ENTRY_ROWS(tasks) * sizeof(chezumobari_entry))
 
 /* Opens a board: every word and every entry 0, every record at the first version (1 to
- * 2,147,483,647), every task idle. Looks only at the sizes and the first version (2), then at the
- * lengths (1), and not at what the tables hold. */
+ * 2,147,483,647), every task idle and on no list. Looks only at the sizes and the first version (2),
+ * then at the lengths (1), and not at what the tables hold. */
 chezumobari_answer chezumobari_open(
     chezumobari_sizes sizes, uint32_t first_version,
     uint32_t *words, size_t words_length, uint32_t *records, size_t records_length,
@@ -160,7 +161,8 @@ chezumobari_answer chezumobari_commit(
     chezumobari_place *places, size_t places_length, const chezumobari_entry *entries, size_t entries_length,
     size_t task);
 
-/* Wait: Open to taking records for sleep. Numbers 0, 1, 3, 4, 7. */
+/* Wait: Open to taking records for sleep. Where another sleeps already, the steps join its list. Numbers
+ * 0, 1, 3, 4, 7. */
 chezumobari_answer chezumobari_wait(
     chezumobari_sizes sizes,
     const uint32_t *words, size_t words_length, const uint32_t *records, size_t records_length,
@@ -169,7 +171,10 @@ chezumobari_answer chezumobari_wait(
 
 /* Step, in neither Idle nor Open: takes one record, decides, writes one word or releases one
  * record. A task that meets another owner fails; that owner, if it is taking, fails too, and if it
- * is asleep, is woken. Numbers 0, 1, 3, 4, 20, 21, 22, 23. */
+ * is asleep, is woken. But one that would sleep and meets a sleeper does not wake it: it joins the
+ * sleeper's list and goes on, if both have seen the record at one version, and otherwise fails alone.
+ * With a sleeper all on its list end too, and all on theirs: who sleeps is woken, and who is still taking
+ * fails. A task that goes idle is off every list. Numbers 0, 1, 3, 4, 20, 21, 22, 23. */
 chezumobari_answer chezumobari_step(
     chezumobari_sizes sizes,
     uint32_t *words, size_t words_length, uint32_t *records, size_t records_length,

@@ -87,7 +87,8 @@ static inline int chezumobari_may_begin(chezumobari_line *line, const chezumobar
     return may;
 }
 
-/* One step. Whoever turns to failing joins the line, the one that came before the one that it met. */
+/* One step. Whoever turns from a commit to failing joins the line, the one that came before the one that it
+ * met. One that would sleep stands in no line, also if it fails with a sleeper that it joined. */
 static inline uint32_t chezumobari_line_step(chezumobari_line *line, const chezumobari_board *board, size_t task)
 {
     uint32_t before[CHEZUMOBARI_MOST_TASKS], number = line->ended[task];

@@ -4,6 +4,7 @@
  * writes, commit or wait, and all steps. If it fails, whoever it met is stepped to its end and the body
  * is run again, in the same turn. Where every other task is idle or asleep, a turn that commits is
  * through at try k + 1 or before, where k is the number of sleepers that own a record of its addresses.
+ * Those on their lists are woken with them and cost no try of their own.
  *
  * Tasks whose transactions span turns keep the line instead: chezumobari_line.h.
  */
@@ -31,7 +32,7 @@ typedef struct chezumobari_turn {
 /* How a body wants its transaction to end. */
 typedef enum chezumobari_end {
     CHEZUMOBARI_THEN_COMMIT,
-    CHEZUMOBARI_THEN_SLEEP, /* on what was read, until another task comes to one of these words */
+    CHEZUMOBARI_THEN_SLEEP, /* on what was read, until a task that would commit comes to one of these words */
     CHEZUMOBARI_THEN_GIVE_UP
 } chezumobari_end;
 
@@ -58,7 +59,7 @@ static inline void chezumobari_put(chezumobari_turn *turn, size_t address, uint3
     turn->calls++;
 }
 
-/* Steps whoever has decided or is releasing to its end. */
+/* Steps whoever has decided or is releasing to its end: the one that was met, and all that woke with it. */
 static inline void chezumobari_end_others(const chezumobari_board *board, chezumobari_line *line, unsigned *calls)
 {
     for (size_t other = 0; other < board->sizes.tasks; other++) {
@@ -130,7 +131,8 @@ static inline uint32_t chezumobari_take_turn(
     return chezumobari_whole_turn(board, NULL, task, body, with, &turn);
 }
 
-/* A label: it reads, sleeps on what it read, and has something to say if that is news. */
+/* A label: it reads, sleeps on what it read, and has something to say if that is news. Any number of labels
+ * sleep on one word, and none of them wakes another. */
 #ifndef CHEZUMOBARI_TEXT_SIZE
 #define CHEZUMOBARI_TEXT_SIZE 160
 #endif
@@ -170,7 +172,7 @@ static inline uint32_t chezumobari_calm_down(const chezumobari_board *board)
 {
     unsigned steps = 0;
     int calm = 0;
-    while (!calm) { /* one on its way may fail or wake one before it, so this is twice at the most */
+    while (!calm) { /* one on its way may fail or wake some before it, so this is twice at the most */
         calm = 1;
         for (size_t task = 0; task < board->sizes.tasks; task++) {
             uint32_t phase = board->places[task].phase, number = CHEZUMOBARI_DONE;
@@ -189,7 +191,8 @@ static inline uint32_t chezumobari_calm_down(const chezumobari_board *board)
 }
 
 /* How many tasks own the record of one of these addresses. Between whole turns these are the sleepers
- * in the way of a turn that uses them: it commits at try one more, or before. */
+ * in the way of a turn that uses them: it commits at try one more, or before. Those on a list own nothing
+ * there, and do not count. */
 static inline unsigned chezumobari_in_the_way(const chezumobari_board *board, const size_t *addresses, size_t count)
 {
     unsigned owners = 0;

@@ -1,4 +1,4 @@
-//! The specification's positions K1 to K11 and its limits, through the safe wrapper.
+//! The specification's positions K1 to K11 and its limits, through the safe wrapper. `lists.rs` has those of lists.
 
 use chezumobari::{
     Board, Outcome, Phase, Progress, Refusal, Seen, Sizes, Tables, ENTRIES_PER_TASK, MOST_RECORDS, MOST_TASKS,
@@ -162,7 +162,7 @@ fn tables_from_elsewhere_are_checked() {
     let board = fresh();
     assert_eq!(Board::from_tables(SMALL, board.tables().clone()), board);
     let mut damaged = board.tables().clone();
-    damaged.places[1] = [ENTRIES_PER_TASK as u32 + 1, 1, 0];
+    damaged.places[1] = [ENTRIES_PER_TASK as u32 + 1, 1, 0, 0];
     let mut board = Board::from_tables(SMALL, damaged.clone());
     assert_eq!(board.look(0), Err(Refusal::Unsound));
     assert_eq!(board.task(0).start(), Err(Refusal::Unsound));

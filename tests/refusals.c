@@ -11,7 +11,7 @@
 #include <stdlib.h>
 #include <string.h>
 
-enum { WORDS = 100, RECORDS = 10, TASKS = 3, RUN = CHEZUMOBARI_ENTRIES_PER_TASK };
+enum { WORDS = 100, RECORDS = 10, TASKS = 4, RUN = CHEZUMOBARI_ENTRIES_PER_TASK };
 
 /* All four tables in one block, so that a copy of it is a copy of everything. */
 typedef struct tables {
@@ -188,6 +188,49 @@ static void fields_damaged(void)
     SAME(now.words[7], 6);
 }
 
+static void sleeps_on(size_t task, size_t one, size_t other)
+{
+    DONE(ASK(start, task));
+    DONE(ASK(read, task, one));
+    DONE(ASK(read, task, other));
+    DONE(ASK(wait, task));
+    SAME(stepped_to_the_end(task), CHEZUMOBARI_ASLEEP);
+}
+
+/* Task 1 is on the list of task 0, and task 2 on that of task 1. Each damage is a list that cannot be. */
+static void lists(void)
+{
+    sleeps_on(0, 3, 13);
+    sleeps_on(1, 23, 4);
+    sleeps_on(2, 14, 5);
+    SAME(now.places[0].joins, 0);
+    SAME(now.places[1].joins, 1 << 0);
+    SAME(now.places[2].joins, 1 << 1);
+    SAME(now.records[3], CHEZUMOBARI_FIRST_OWNER);
+    SAME(now.records[4], CHEZUMOBARI_FIRST_OWNER + 1);
+    damaged(&now.places[1].joins, 1u << TASKS);
+    damaged(&now.places[1].joins, UINT32_MAX);
+    damaged(&now.places[2].joins, 1 << 2);                              /* its own */
+    damaged(&now.places[0].joins, 1 << 1);                              /* a way back, of two */
+    damaged(&now.places[0].joins, 1 << 2);                              /* and of three */
+    damaged(&now.places[1].joins, 1 << 3);                              /* that of one who does not sleep */
+    damaged(&now.places[3].joins, 1 << 0);                              /* one who is idle is on it */
+    damaged(&now.places[0].phase, CHEZUMOBARI_PHASE_RELEASING_WOKEN);   /* one with a list does not sleep */
+    damaged(&now.places[2].phase, CHEZUMOBARI_PHASE_TAKING_TO_COMMIT);  /* one who would commit is on it */
+    damaged(&now.places[2].phase, CHEZUMOBARI_PHASE_WRITING);
+    now.places[2].joins = 1 << 0 | 1 << 1; /* on both lists: that can be */
+    SAME(ASK(step, 2).number, CHEZUMOBARI_ASLEEP);
+    DONE(ASK(start, 3));
+    DONE(ASK(write, 3, 3, 8));
+    DONE(ASK(commit, 3));
+    DONE(ASK(step, 3));
+    SAME(now.places[3].phase, CHEZUMOBARI_PHASE_RELEASING_FAILED);
+    for (int task = 0; task < 3; task++) {
+        SAME(now.places[task].phase, CHEZUMOBARI_PHASE_RELEASING_WOKEN);
+        SAME(now.places[task].joins, 0);
+    }
+}
+
 /* The numbers of the specification, under their names. */
 static void names(void)
 {
@@ -227,6 +270,7 @@ int main(void)
     beyond_32_bits();
     fields();
     fields_damaged();
+    lists();
     names();
     printf("%d answers are as they should be\n", checked);
     return 0;

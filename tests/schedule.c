@@ -43,7 +43,7 @@ static chezumobari_answer call(chezumobari_board b)
         return chezumobari_step(CHEZUMOBARI_LENT(b), task);
     if (choice < 6)
         return chezumobari_commit(CHEZUMOBARI_LENT(b), task);
-    if (choice < 8)
+    if (choice < 8 && (task != 0 || below(8) == 0)) /* task 0 seldom sleeps, so that it can wake the others */
         return chezumobari_wait(CHEZUMOBARI_LENT(b), task);
     if (choice < 16)
         return chezumobari_write(CHEZUMOBARI_LENT(b), task, address, (uint32_t)below(9));

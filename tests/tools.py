@@ -47,6 +47,11 @@ def play_sessions(room):
     subprocess.run([TOP / "tools/play", stdin], stdout=subprocess.DEVNULL, check=False)
     same("tools/play FILE", run(["tools/play", stdin]), (0, lines, []))
     same("tools/play -", run(["tools/play", "-"], stdin.read_bytes()), (0, lines, []))
+    # Three labels on one tile, found by hand: all fall asleep and sleep on, one trade wakes them, and then it commits.
+    ended, told, _ = run(["tools/play", TOP / "samples/three-labels.session"])
+    numbers = [number for number in (line.split()[1] for line in told[:-1]) if number != "0"]
+    wanted = ["20"] * 6 + ["23"] * 3 + ["22", "21"]
+    same("one trade wakes three labels", (ended, numbers, told[-1:]), (0, wanted, ["w 0 7 2"]))
     start = b"ST\0"
     refused = [
         (b"BD" + bytes(9), "0 2 0", "0 with the number 2: a size or the first version is out of range"),
@@ -213,6 +218,9 @@ def examples(room):
     helps([built("evening", "release")], "evening: a game with the screen dark")
     ended, told, _ = run(["tools/evening", "--seed", "7"])
     same("tools/evening --seed 7", (ended, told[-4:-3]), (0, ["Evening 7. To hear it again: --seed 7."]))
+    ended, both, _ = run(["tools/evening", "--braille", "--seed", "7"])
+    nobody = "With two listeners on each tile, 0 sleepers were woken by one that only listened."
+    same("tools/evening --braille", (ended, both[-5:-2], both[-1].endswith(nobody)), (0, told[-4:-1], True))
     page = (TOP / "README.md").read_text()
     quoted = page.partition("Ten lines of it:\n\n")[2].partition("\n\n")[0].replace("    ", "")
     same("README.md quotes ten lines of the evening", (quoted.count("\n"), quoted in "\n".join(told)), (9, True))

@@ -1,6 +1,6 @@
 /* Whole turns and the line from C. Ends with 1 at the first turn that is not as it should be: a commit
  * that was tried more than once more than the sleepers in its way, a lost or half done one, a task that
- * is left open, or writers that never come through. */
+ * is left open or woken by one that would only sleep, or writers that never come through. */
 #include "chezumobari_turns.h"
 
 #include <stdio.h>
@@ -45,6 +45,14 @@ static int calm(void)
     return 1;
 }
 
+static unsigned sleepers(void)
+{
+    unsigned count = 0;
+    for (size_t task = 0; task < TASKS; task++)
+        count += places[task].phase == CHEZUMOBARI_PHASE_ASLEEP;
+    return count;
+}
+
 /* What a turn of the random game does: adds 1 to some words, or sleeps on them. */
 typedef struct plan {
     size_t addresses[6], count;
@@ -63,34 +71,43 @@ static chezumobari_end play(chezumobari_turn *turn, void *with)
     return p->end;
 }
 
-static plan some_plan(void)
+static plan some_plan(size_t task)
 {
     plan p = {{0}, 0, (chezumobari_end)below(3)};
     size_t first = below(WORDS);
+    if (task == 0 && p.end == CHEZUMOBARI_THEN_SLEEP) /* it never sleeps: who sleeps wakes nobody */
+        p.end = CHEZUMOBARI_THEN_COMMIT;
     p.count = 1 + below(6);
     for (size_t i = 0; i < p.count; i++)
         p.addresses[i] = (first + 5 * i) % WORDS;
     return p;
 }
 
-static void whole_turns(size_t record_count, unsigned *commits, unsigned *most)
+typedef struct counts {
+    unsigned commits, most, joined;
+} counts;
+
+static void whole_turns(size_t record_count, counts *seen)
 {
     static const uint32_t wanted[] = {CHEZUMOBARI_COMMITTED, CHEZUMOBARI_ASLEEP, CHEZUMOBARI_DONE};
     open_board(record_count);
     for (int i = 0; i < TURNS; i++) {
         size_t task = below(TASKS);
-        plan p = some_plan();
-        unsigned k = chezumobari_in_the_way(&board, p.addresses, p.count);
+        plan p = some_plan(task);
+        unsigned k = chezumobari_in_the_way(&board, p.addresses, p.count), asleep = sleepers();
         chezumobari_turn turn;
         if (places[task].phase == CHEZUMOBARI_PHASE_ASLEEP)
             continue;
         see(chezumobari_whole_turn(&board, NULL, task, play, &p, &turn) == wanted[p.end], "a turn ended otherwise");
         see(turn.tries <= k + 1, "a turn was tried too often");
+        if (p.end == CHEZUMOBARI_THEN_SLEEP)
+            see(turn.tries == 1 && sleepers() == asleep + 1, "one that would sleep failed, or woke another");
         see(calm(), "a task was left on its way");
         for (size_t j = 0; j < p.count && p.end == CHEZUMOBARI_THEN_COMMIT; j++)
             serial[p.addresses[j]]++;
-        *commits += p.end == CHEZUMOBARI_THEN_COMMIT;
-        *most = turn.tries > *most ? turn.tries : *most;
+        seen->commits += p.end == CHEZUMOBARI_THEN_COMMIT;
+        seen->joined += places[task].joins != 0;
+        seen->most = turn.tries > seen->most ? turn.tries : seen->most;
     }
 }
 
@@ -165,12 +182,13 @@ static int in_line(void)
 
 int main(void)
 {
-    unsigned commits = 0, most = 0;
-    whole_turns(WORDS, &commits, &most);
-    whole_turns(5, &commits, &most);
-    whole_turns(1, &commits, &most);
+    counts seen = {0, 0, 0};
+    whole_turns(WORDS, &seen);
+    whole_turns(5, &seen);
+    whole_turns(1, &seen);
     refusals();
-    printf("whole turns: %u commits, none beyond its tries, %u at the most\n", commits, most);
+    printf("whole turns: %u commits, none beyond its tries, %u at the most\n", seen.commits, seen.most);
+    printf("%u turns ended asleep on a list, and none of them woke a sleeper\n", seen.joined);
     printf("the line: %d rounds, and no deal was lost\n", in_line());
     return 0;
 }

@@ -110,6 +110,11 @@ pub fn group_of(tile: usize) -> Vec<usize> {
     (0..TILES.len()).filter(same).collect()
 }
 
+/// The groups of tiles that can be owned. There are 9.
+pub fn groups() -> impl Iterator<Item = Vec<usize>> {
+    estate().map(|tile| (tile, group_of(tile))).filter(|(tile, group)| group[0] == *tile).map(|(_, group)| group)
+}
+
 // The words of a tile: owner (0 nobody, else a player plus 1), houses, and 1 if it is mortgaged.
 pub fn owner(tile: usize) -> usize {
     3 * tile
@@ -159,12 +164,12 @@ pub const DONE: u32 = 1;
 pub const YES: u32 = 2;
 pub const NO: u32 = 3;
 
-// The tasks: rules, four hands, the network, and a label for each tile that can be owned.
+// The tasks: rules, four hands, the network, and a label for each tile that can be owned, or two for each group.
 pub const RULES: usize = 0;
 pub const FIRST_HAND: usize = 1;
 pub const NETWORK: usize = FIRST_HAND + PLAYERS;
 pub const FIRST_LABEL: usize = NETWORK + 1;
 pub const TASKS: usize = FIRST_LABEL + 26;
 
-/// Each word has a record of its own, so that no two tasks sleep on one record.
+/// Each word has a record of its own, so that a trade wakes only those who sleep on the words that it uses.
 pub const SIZES: Sizes = Sizes { words: WORDS, records: WORDS, tasks: TASKS };

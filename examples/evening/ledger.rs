@@ -53,6 +53,12 @@ pub struct Counts {
     pub wakings: u64,
     pub snapshots: u64,
     pub labels: u64,
+    /// changes that the braille line showed
+    pub shown: u64,
+    /// tasks that fell asleep on the list of another
+    pub joined: u64,
+    /// sleepers that were woken by one that would only sleep
+    pub woken_by_listening: u64,
 }
 
 pub struct Ledger {
@@ -60,6 +66,8 @@ pub struct Ledger {
     /// every state that a tile has had on a serial board
     history: RefCell<HashSet<(usize, TileState)>>,
     notes: RefCell<Vec<Notes>>,
+    /// who slept after the last step
+    asleep: Cell<u32>,
     pub lines: RefCell<Vec<Line>>,
     pub counts: Cell<Counts>,
     pub lateness: RefCell<Lateness>,
@@ -77,6 +85,7 @@ impl Ledger {
             serial: RefCell::new(serial),
             history: RefCell::new(tiles.iter().copied().enumerate().collect()),
             notes: RefCell::new(vec![Notes::default(); TASKS]),
+            asleep: Cell::default(),
             lines: RefCell::default(),
             counts: Cell::default(),
             lateness: RefCell::new(Lateness::new(tiles)),
@@ -113,11 +122,26 @@ impl Ledger {
         if step.before == Phase::TakingToSleep && step.progress == Progress::Asleep {
             self.check(&self.notes.borrow()[step.task]);
         }
+        self.see_sleepers(board, step);
         if let Progress::Ended(outcome) = step.progress {
             self.count(|c| match outcome {
                 Outcome::Committed => c.commits += 1,
                 Outcome::Failed => c.failures += 1,
                 Outcome::Woken => c.wakings += 1,
+            });
+        }
+    }
+
+    /// Who sleeps now, and who has been woken by a step towards sleep.
+    fn see_sleepers(&self, board: &Board, step: Stepped) {
+        let sleeps = |&task: &usize| board.phase(task) == Some(Phase::Asleep);
+        let asleep = (0..TASKS).filter(sleeps).fold(0, |set, task| set | 1 << task);
+        let woken = self.asleep.replace(asleep) & !asleep;
+        if step.before == Phase::TakingToSleep {
+            let joined = step.progress == Progress::Asleep && board.tables().places[step.task][3] != 0;
+            self.count(|c| {
+                c.woken_by_listening += u64::from(woken.count_ones());
+                c.joined += u64::from(joined);
             });
         }
     }
@@ -148,6 +172,12 @@ impl Ledger {
             }
         }
         self.lines.borrow_mut().extend(notes.lines);
+    }
+
+    /// The braille line shows a tile. It must be the board.
+    pub fn show(&self, tile: usize, state: TileState) {
+        assert_eq!(state, self.tile(tile), "the braille line showed what was not the board");
+        self.count(|c| c.shown += 1);
     }
 
     /// A label speaks. It must be the board.

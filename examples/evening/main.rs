@@ -4,6 +4,9 @@
 //! transaction is one whole turn. Every label is checked against the serial board as it is spoken.
 //! Then the same game is played once more with labels cached per tile and a commit given one step a
 //! turn, and the cache's labels that were not the board are counted.
+//!
+//! On request a braille line listens beside the voice, so that two labels sleep on each tile. There are 32
+//! tasks, so a label then has the tiles of a group.
 
 mod cache;
 mod debts;
@@ -18,31 +21,21 @@ mod random;
 mod report;
 mod rules;
 mod voice;
+mod wish;
 mod wording;
 mod world;
 
 use chezumobari::Scheduler;
 use lateness::Lateness;
 use layout::{FIRST_HAND, FIRST_LABEL, NETWORK, PLAYERS, RULES};
-use ledger::{Counts, Line};
+use ledger::{Counts, Ledger, Line};
 use report::{Report, TurnTaken};
 use std::io::{ErrorKind, Write};
 use std::path::Path;
 use std::process::{Command, ExitCode};
 use std::time::Instant;
+use wish::{wish, Wish, HELP};
 use world::World;
-
-const HELP: &str = "evening: a game with the screen dark, told in words
-
-  --seed N          which evening to play (default 1)
-  --evenings N      play N evenings, from the seed on, and print only the counts
-  --measured        with --evenings: measure times with care, and print every figure
-  --labels WHICH    sleeping (default) or cached: whose labels the transcript has
-  --speak FILE.wav  have espeak-ng speak the transcript into a file
-
---labels and --speak are for one evening, so they do not go with --evenings.
---measured is for many.
-Exit status: 0 played; 1 the evening was not spoken, or not told to its end; 2 an argument is wrong.";
 
 /// What ends the program early.
 enum Stop {
@@ -54,14 +47,15 @@ enum Stop {
     Unheard,
 }
 
-#[derive(Default)]
-struct Wish {
-    help: bool,
-    seed: Option<u64>,
-    evenings: Option<u64>,
-    measured: bool,
-    cached: Option<bool>,
-    speak: Option<String>,
+/// Who listens to the tiles.
+#[derive(Clone, Copy, Debug, PartialEq, Eq)]
+enum Listening {
+    /// a label for each tile
+    Voice,
+    /// two labels for each group of tiles
+    VoiceAndBraille,
+    /// the cache, and no labels
+    Cached,
 }
 
 /// What is left of an evening.
@@ -95,20 +89,27 @@ fn take_turns(world: &World, mut scheduler: Scheduler<'_>, rules: usize) -> Vec<
 }
 
 /// Plays one game. With a cache there are no label tasks: the cached voice speaks instead.
-fn play(seed: u64, cached: bool) -> Evening {
-    let world = World::new(seed, cached);
+fn play(seed: u64, listening: Listening) -> Evening {
+    let world = World::new(seed, listening == Listening::Cached);
     let mut scheduler = Scheduler::new(&world.shared);
     let rules = scheduler.add(RULES, rules::rules(&world));
     for player in 0..PLAYERS {
         scheduler.add(FIRST_HAND + player, hand::hand(&world, player));
     }
     scheduler.add(NETWORK, network::network(&world));
-    if cached {
-        scheduler.add_other(cache::cached_voice(&world));
-    } else {
-        for (which, tile) in layout::estate().enumerate() {
-            scheduler.add(FIRST_LABEL + which, voice::label(&world, which, tile));
+    let (speak, show) = (Ledger::speak as voice::Hears, Ledger::show as voice::Hears);
+    let labels: Vec<(Vec<usize>, voice::Hears)> = match listening {
+        Listening::Voice => layout::estate().map(|tile| (vec![tile], speak)).collect(),
+        Listening::VoiceAndBraille => {
+            layout::groups().flat_map(|group| [(group.clone(), speak), (group, show)]).collect()
         }
+        Listening::Cached => Vec::new(),
+    };
+    for (which, (tiles, hears)) in labels.into_iter().enumerate() {
+        scheduler.add(FIRST_LABEL + which, voice::label(&world, FIRST_LABEL + which, tiles, hears));
+    }
+    if listening == Listening::Cached {
+        scheduler.add_other(cache::cached_voice(&world));
     }
     let turns = take_turns(&world, scheduler, rules);
     let (mut cache_spoke, mut cache_wrong, mut cache_never) = (0, 0, 0);
@@ -128,8 +129,8 @@ fn events(evening: &Evening) -> Vec<&Line> {
 }
 
 /// Plays the evening both ways, and sees that it was the same game.
-fn play_both(seed: u64) -> (Evening, Evening) {
-    let (sleeping, cached) = (play(seed, false), play(seed, true));
+fn play_both(seed: u64, listening: Listening) -> (Evening, Evening) {
+    let (sleeping, cached) = (play(seed, listening), play(seed, Listening::Cached));
     assert_eq!(events(&sleeping), events(&cached), "the two plays differ");
     (sleeping, cached)
 }
@@ -158,7 +159,7 @@ fn tell(text: &str) -> Result<(), Stop> {
 
 fn one_evening(wish: &Wish) -> Result<(), Stop> {
     let seed = wish.seed.unwrap_or(1);
-    let (sleeping, cached) = play_both(seed);
+    let (sleeping, cached) = play_both(seed, wish.listening());
     let told = transcript(if wish.cached == Some(true) { &cached } else { &sleeping });
     let counts = sleeping.counts;
     tell(&format!(
@@ -178,6 +179,9 @@ The same game with labels cached per tile: {} labels, {} of them not the board, 
         counts.wakings,
         counts.snapshots
     ))?;
+    if wish.braille {
+        tell(&format!("{}\n", report::braille(counts.shown, counts.woken_by_listening)))?;
+    }
     match &wish.speak {
         Some(file) => speak(&told, file).map_err(|why| Stop::Failed(format!("{file} was not spoken: {why}"))),
         None => Ok(()),
@@ -210,7 +214,8 @@ fn speak_into(text: &str, say: &Path, spoken: &Path) -> Result<(), String> {
 }
 
 /// Plays evenings and says what came of them. Measured, those that take longest are played again.
-fn many_evenings(first: u64, evenings: u64, measured: bool) -> Result<(), Stop> {
+fn many_evenings(first: u64, evenings: u64, wish: &Wish) -> Result<(), Stop> {
+    let listening = wish.listening();
     let mut report = Report::default();
     let mut said = Instant::now();
     for seed in first..first + evenings {
@@ -218,53 +223,20 @@ fn many_evenings(first: u64, evenings: u64, measured: bool) -> Result<(), Stop> 
             eprintln!("evening: {} of {evenings} evenings are played", seed - first);
             said = Instant::now();
         }
-        let (sleeping, cached) = play_both(seed);
+        let (sleeping, cached) = play_both(seed, listening);
         report.add(&sleeping, &cached);
-        report.add_turns(sleeping.turns, if measured { 20 } else { 1 }, || play(seed, false).turns);
+        report.add_turns(sleeping.turns, if wish.measured { 20 } else { 1 }, || play(seed, listening).turns);
     }
-    let figures = if measured { report.figures() } else { String::new() };
-    tell(&format!("{evenings} evenings, seeds {first} to {}.\n{report}{figures}", first + evenings - 1))
-}
-
-/// What the words ask for.
-fn wish(mut words: impl Iterator<Item = String>) -> Result<Wish, String> {
-    let mut wish = Wish::default();
-    while let Some(word) = words.next() {
-        let mut value = || words.next().ok_or(format!("{word} needs a value"));
-        let number = |text: String| text.parse::<u64>().map_err(|_| format!("{word} takes a number, not {text}"));
-        match word.as_str() {
-            "--help" | "-h" => wish.help = true,
-            "--seed" => wish.seed = Some(number(value()?)?),
-            "--evenings" => wish.evenings = Some(number(value()?)?),
-            "--measured" => wish.measured = true,
-            "--labels" => {
-                wish.cached = Some(match value()?.as_str() {
-                    "cached" => true,
-                    "sleeping" => false,
-                    other => return Err(format!("--labels takes sleeping or cached, not {other}")),
-                })
-            }
-            "--speak" => wish.speak = Some(value()?),
-            _ => return Err(format!("there is no option {word}; --help says which there are")),
-        }
-    }
-    match (wish.evenings, &wish.speak, wish.cached) {
-        (None, ..) if wish.measured => Err("--measured goes with --evenings".to_string()),
-        (Some(0), ..) => Err("--evenings takes 1 or more".to_string()),
-        (Some(_), Some(_), _) => Err("--speak is for one evening, and does not go with --evenings".to_string()),
-        (Some(_), _, Some(_)) => Err("--labels is for one evening, and does not go with --evenings".to_string()),
-        (Some(n), ..) if wish.seed.unwrap_or(1).checked_add(n).is_none() => {
-            Err("there are not so many evenings after this seed".to_string())
-        }
-        _ => Ok(wish),
-    }
+    let braille = if wish.braille { report.braille() } else { String::new() };
+    let figures = if wish.measured { report.figures() } else { String::new() };
+    tell(&format!("{evenings} evenings, seeds {first} to {}.\n{report}{braille}{figures}", first + evenings - 1))
 }
 
 fn run() -> Result<(), Stop> {
     let wish = wish(std::env::args().skip(1)).map_err(Stop::Usage)?;
     match wish.evenings {
         _ if wish.help => tell(&format!("{HELP}\n")),
-        Some(evenings) => many_evenings(wish.seed.unwrap_or(1), evenings, wish.measured),
+        Some(evenings) => many_evenings(wish.seed.unwrap_or(1), evenings, &wish),
         None => one_evening(&wish),
     }
 }
@@ -284,16 +256,33 @@ mod tests {
     use super::*;
 
     /// No livelock, every label the board (the ledger sees to that), and in time.
+    fn is_in_time(seed: u64, sleeping: &Evening) {
+        let late = &sleeping.lateness;
+        assert!(sleeping.counts.rounds < 10_000, "evening {seed} took {} rounds", sleeping.counts.rounds);
+        assert!(lateness::share(&late.rounds, 990) <= 1, "evening {seed}: {}", lateness::in_words(&late.rounds));
+        assert!(lateness::share(&late.rounds, 1000) <= 4, "evening {seed}: {}", lateness::in_words(&late.rounds));
+        assert_eq!((late.overtaken, late.unspoken), (0, 0), "evening {seed}");
+    }
+
     #[test]
     fn labels_speak_in_time() {
         for seed in 1..=20 {
-            let (sleeping, cached) = play_both(seed);
-            let late = &sleeping.lateness;
-            assert!(sleeping.counts.rounds < 10_000, "evening {seed} took {} rounds", sleeping.counts.rounds);
+            let (sleeping, cached) = play_both(seed, Listening::Voice);
             assert!(cached.counts.rounds < 50_000, "evening {seed} took {} rounds", cached.counts.rounds);
-            assert!(lateness::share(&late.rounds, 990) <= 1, "evening {seed}: {}", lateness::in_words(&late.rounds));
-            assert!(lateness::share(&late.rounds, 1000) <= 4, "evening {seed}: {}", lateness::in_words(&late.rounds));
-            assert_eq!((late.overtaken, late.unspoken), (0, 0), "evening {seed}");
+            is_in_time(seed, &sleeping);
+        }
+    }
+
+    /// Two listeners on each tile say the same, as soon, and nobody is woken by one that only listens.
+    #[test]
+    fn nobody_wakes_anybody_by_listening() {
+        for seed in 1..=20 {
+            let (both, voice) = (play(seed, Listening::VoiceAndBraille), play(seed, Listening::Voice));
+            assert_eq!(events(&both), events(&voice), "evening {seed}: the two plays differ");
+            is_in_time(seed, &both);
+            assert!(both.counts.wakings > 100 && both.counts.joined > 100, "evening {seed}: {:?}", both.counts);
+            assert_eq!(both.counts.woken_by_listening, 0, "evening {seed}");
+            assert_eq!(both.counts.shown, both.counts.labels, "evening {seed}");
         }
     }
 }

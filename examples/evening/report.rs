@@ -52,6 +52,13 @@ pub struct Report {
     lateness: Lateness,
     turn: Longest,
     round: Longest,
+    shown: u64,
+    woken_by_listening: u64,
+}
+
+/// What is said of evenings with two listeners on each tile.
+pub fn braille(shown: u64, woken_by_listening: u64) -> String {
+    format!("The braille line showed {shown} changes, and each was the board when it was shown. With two listeners on each tile, {woken_by_listening} sleepers were woken by one that only listened.")
 }
 
 impl Report {
@@ -65,6 +72,12 @@ impl Report {
         self.never += cached.cache_never;
         self.without += u64::from(cached.cache_never == 0);
         self.lateness.add(&sleeping.lateness);
+        self.shown += sleeping.counts.shown;
+        self.woken_by_listening += sleeping.counts.woken_by_listening;
+    }
+
+    pub fn braille(&self) -> String {
+        braille(self.shown, self.woken_by_listening) + "\n"
     }
 
     /// The turns of an evening. One whose longest turn or round would be the longest so far is played
@@ -95,7 +108,8 @@ impl Report {
         for (name, longest) in [("turn", &self.turn), ("round", &self.round)] {
             text += &format!("longest {name} {} {}\n", longest.calls, longest.time.as_nanos());
         }
-        text + &format!("changes {} {} {}\n", self.lateness.overtaken, self.lateness.undone, self.lateness.unspoken)
+        text += &format!("changes {} {} {}\n", self.lateness.overtaken, self.lateness.undone, self.lateness.unspoken);
+        text + &format!("listening {} {}\n", self.shown, self.woken_by_listening)
     }
 }
 

@@ -1,7 +1,8 @@
 //! A board that owns its tables, and a handle for each of its tasks.
 
 use crate::numbers::{done, progress, Progress, Refusal};
-use crate::tables::{Sizes, Tables};
+use crate::tables::{PlaceRow, Sizes, Tables};
+use crate::MOST_TASKS;
 
 /// A board of words that several tasks read and write in transactions.
 ///
@@ -98,6 +99,28 @@ impl Board {
         let code = self.tables.places.get(task)?[1];
         phases.get(code as usize).copied()
     }
+
+    /// The tasks on a sleeper's list: they came for one of its records to sleep on it too, and are woken
+    /// with it. Empty for a task that does not sleep.
+    ///
+    /// ```
+    /// use chezumobari::{Board, End, Phase, Sizes};
+    /// let mut board = Board::open(Sizes { words: 1, records: 1, tasks: 4 }, 1)?;
+    /// for listener in 0..3 {
+    ///     board.turn(listener, |open| Ok(End::Sleep(open.read(0)?)))?;
+    /// }
+    /// assert_eq!(board.list(0), [1, 2]);
+    ///
+    /// // One writer wakes all three, with one try.
+    /// let turn = board.turn(3, |open| Ok(End::Commit(open.write(0, 7)?)))?;
+    /// assert_eq!(turn.tries, 2);
+    /// assert!((0..3).all(|listener| board.phase(listener) == Some(Phase::Idle)));
+    /// # Ok::<(), chezumobari::Refusal>(())
+    /// ```
+    pub fn list(&self, task: usize) -> Vec<usize> {
+        let joined = |row: &PlaceRow| task < MOST_TASKS && row[3] >> task & 1 == 1;
+        (0..self.tables.places.len()).filter(|&other| joined(&self.tables.places[other])).collect()
+    }
 }
 
 /// One task's transaction.
@@ -119,8 +142,8 @@ impl Board {
 /// - Open, it keeps what it read, and stands in nobody's way. [`Task::abort`] ends it.
 /// - On its way to commit, to sleep or to the end, it keeps the records that it has taken, and every
 ///   task that comes for one of them fails, until this one has been stepped to its end.
-/// - Asleep, it sleeps on until another task comes for one of its records. Then it is on its way to the
-///   end.
+/// - Asleep, it sleeps on until a task that would commit comes for one of its records, or for one of a
+///   sleeper whose list it is on. Then it is on its way to the end.
 ///
 /// ```
 /// # use chezumobari::{Board, Outcome, Phase, Progress, Sizes};

@@ -37,12 +37,16 @@
 //! # What to know before the first game
 //!
 //! - Make each transaction one whole turn: [`Board::turn`], or [`Shared::turn`] for tasks that are
-//!   futures. Then it comes through, after one try for each sleeper in its way. A body that must wait
-//!   in its middle takes [`Shared::span`], which keeps a line of those that have failed.
+//!   futures. Then it comes through, after one try for each sleeper that owns a record in its way,
+//!   however many sleep with that one. A body that must wait in its middle takes [`Shared::span`],
+//!   which keeps a line of those that have failed.
 //! - The calls by themselves are [`Board::task`]. There a clash fails the task that comes, and wakes
 //!   or fails the owner that it meets, unless that owner is already writing or releasing. Trying
 //!   again at once may then go on for ever, and so may trying again after a rest.
-//! - Two tasks cannot sleep on one record. An address belongs to record `address % records`.
+//! - Any number of tasks sleep on one record: the first owns it, and the others join its list
+//!   ([`Board::list`]). Nobody is woken by one that would only sleep. One that would commit wakes them
+//!   all at once. So a task may be woken for a word of one that it joined, which it has not read.
+//! - An address belongs to record `address % records`.
 //! - A transaction has at most [`ENTRIES_PER_TASK`] addresses.
 //! - Every call checks the four tables first. `docs/SPEED.md` says what that costs.
 
@@ -71,7 +75,7 @@ pub const MOST_TASKS: usize = 32;
 /// A transaction has at most this many entries.
 pub const ENTRIES_PER_TASK: usize = 64;
 /// A task's row has this many numbers.
-pub const PLACE_WIDTH: usize = 3;
+pub const PLACE_WIDTH: usize = 4;
 /// An entry's row has this many numbers.
 pub const ENTRY_WIDTH: usize = 5;
 /// Versions go from 1 to this number.

@@ -97,8 +97,8 @@ pub enum Outcome {
     Committed = 21,
     /// Nothing was written. Another task was there first: start again.
     Failed = 22,
-    /// The task slept, and another task has come for one of its records. Read again and compare: that
-    /// task may have failed, so nothing need have changed.
+    /// The task slept, and one that would commit has come for one of its records, or for one of a
+    /// sleeper whose list it was on. Read again and compare: nothing need have changed here.
     Woken = 23,
 }
 

@@ -2,11 +2,14 @@
 //!
 //! All numbers are little-endian. The bytes are, in order:
 //! - the eight letters `chezumob`;
-//! - the version of the format, 32 bits, which is 1;
+//! - the version of the format, 32 bits, which is 2;
 //! - how many words, records and tasks, 32 bits each;
 //! - every word, every record, every task's row and every entry's, as [`Tables`] has them, number by
 //!   number, 32 bits each;
 //! - a checksum of all bytes before it, 64 bits: FNV-1a.
+//!
+//! Boards that were saved in version 1 are loaded too. There a task's row has three numbers: it lacks the
+//! last, the lists that the task is on, and each task is on none.
 //!
 //! `include/chezumobari_saved.h` reads and writes the same bytes.
 
@@ -16,7 +19,9 @@ use std::error::Error;
 use std::fmt;
 
 const MARK: &[u8; 8] = b"chezumob";
-const FORMAT: u32 = 1;
+const FORMAT: u32 = 2;
+/// The version before: it is read, and no longer written.
+const WITHOUT_LISTS: u32 = 1;
 const HEAD: usize = 24;
 const SUM: usize = 8;
 
@@ -25,7 +30,7 @@ const SUM: usize = 8;
 pub enum NotLoaded {
     /// They do not begin as a saved board does.
     NotABoard,
-    /// They are of another version of the format: this one.
+    /// They are of another version of the format, neither 1 nor 2: this one.
     OtherVersion(u32),
     /// There are too few or too many, a size is out of range, or the checksum is another.
     Damaged,
@@ -59,8 +64,9 @@ impl Numbers<'_> {
         self.0.next().map_or(0, |four| u32::from_le_bytes([four[0], four[1], four[2], four[3]]))
     }
 
-    fn rows<const N: usize>(&mut self, count: usize) -> Vec<[u32; N]> {
-        (0..count).map(|_| std::array::from_fn(|_| self.next())).collect()
+    /// Rows of which the bytes have the first numbers, so many, and the others are 0.
+    fn rows<const N: usize>(&mut self, count: usize, width: usize) -> Vec<[u32; N]> {
+        (0..count).map(|_| std::array::from_fn(|at| if at < width { self.next() } else { 0 })).collect()
     }
 
     fn list(&mut self, count: usize) -> Vec<u32> {
@@ -68,8 +74,18 @@ impl Numbers<'_> {
     }
 }
 
-fn numbers_in(sizes: Sizes) -> usize {
-    sizes.words + sizes.records + sizes.tasks * (PLACE_WIDTH + ENTRIES_PER_TASK * ENTRY_WIDTH)
+/// How many numbers a board has, where a task's row has so many.
+fn numbers_in(sizes: Sizes, place_width: usize) -> usize {
+    sizes.words + sizes.records + sizes.tasks * (place_width + ENTRIES_PER_TASK * ENTRY_WIDTH)
+}
+
+/// How many numbers a task's row has in a version of the format that is known.
+fn place_width(version: u32) -> Option<usize> {
+    match version {
+        FORMAT => Some(PLACE_WIDTH),
+        WITHOUT_LISTS => Some(PLACE_WIDTH - 1),
+        _ => None,
+    }
 }
 
 impl Board {
@@ -99,7 +115,7 @@ impl Board {
         // any call checks the tables, and address 0 is on every board
         self.look(0).map(drop)?;
         let (sizes, tables) = (self.sizes(), self.tables());
-        let mut bytes = Vec::with_capacity(HEAD + 4 * numbers_in(sizes) + SUM);
+        let mut bytes = Vec::with_capacity(HEAD + 4 * numbers_in(sizes, PLACE_WIDTH) + SUM);
         bytes.extend(MARK);
         let head = [FORMAT, sizes.words as u32, sizes.records as u32, sizes.tasks as u32];
         let tables = [&tables.words[..], &tables.records, tables.places.as_flattened(), tables.entries.as_flattened()];
@@ -110,7 +126,7 @@ impl Board {
         Ok(bytes)
     }
 
-    /// The board that was saved as these bytes.
+    /// The board that was saved as these bytes, in this version of the format or the one before.
     ///
     /// If it was saved from a board that calls had reached, it is that board again, and what is
     /// promised of it goes on. Bytes that somebody else made, with a checksum that fits, are only
@@ -123,20 +139,18 @@ impl Board {
         let (body, sum) = bytes.split_at(bytes.len() - SUM);
         let mut numbers = Numbers(body[MARK.len()..].chunks_exact(4));
         let version = numbers.next();
-        if version != FORMAT {
-            return Err(NotLoaded::OtherVersion(version));
-        }
+        let width = place_width(version).ok_or(NotLoaded::OtherVersion(version))?;
         let [words, records, tasks] = std::array::from_fn(|_| numbers.next() as usize);
         let sizes = Sizes { words, records, tasks };
         let in_range = words <= MOST_WORDS && records <= MOST_RECORDS && tasks <= MOST_TASKS;
-        if !in_range || body.len() != HEAD + 4 * numbers_in(sizes) || sum != checksum(body).to_le_bytes() {
+        if !in_range || body.len() != HEAD + 4 * numbers_in(sizes, width) || sum != checksum(body).to_le_bytes() {
             return Err(NotLoaded::Damaged);
         }
         let tables = Tables {
             words: numbers.list(words),
             records: numbers.list(records),
-            places: numbers.rows(tasks),
-            entries: numbers.rows(tasks * ENTRIES_PER_TASK),
+            places: numbers.rows(tasks, width),
+            entries: numbers.rows(tasks * ENTRIES_PER_TASK, ENTRY_WIDTH),
         };
         let board = Board::from_tables(sizes, tables);
         board.look(0).map(|_| board).map_err(|_| NotLoaded::Unsound)

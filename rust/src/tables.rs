@@ -42,7 +42,8 @@ pub struct Looked {
     pub version: u32,
 }
 
-/// A task's row: number of entries, phase code, position.
+/// A task's row: number of entries, phase code, position, and the set of the sleepers on whose lists the
+/// task is (bit t for task t).
 pub type PlaceRow = [u32; PLACE_WIDTH];
 
 /// An entry's row: address, old value, new value, old version, new version.
@@ -171,7 +172,7 @@ macro_rules! on_a_place {
 // Each table's pointer and length stand on one line.
 #[rustfmt::skip]
 impl Tables {
-    /// Opens a board: words and entries 0, every record at the first version, every task idle.
+    /// Opens a board: words and entries 0, every record at the first version, every task idle and on no list.
     /// Looks only at the sizes and the first version (2) and then at the lengths (1).
     pub fn open(&mut self, sizes: Sizes, first_version: u32) -> Answer {
         // SAFETY: the tables are borrowed for the call (see above).

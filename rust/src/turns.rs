@@ -15,7 +15,7 @@ use crate::{Board, Outcome, Phase, Progress, Refusal};
 pub enum End<T> {
     /// What was written goes to the board.
     Commit(T),
-    /// The task sleeps on what was read, until another task comes to one of its words.
+    /// The task sleeps on what was read, until one that would commit comes to one of its words.
     Sleep(T),
     /// Nothing was written.
     Abort(T),
@@ -67,6 +67,7 @@ impl Board {
     /// If the try fails, whoever it met is stepped to its end and the body is run again, in the same
     /// turn. On a board where every other task is idle or asleep, a turn that commits is through at
     /// try k + 1 or before, where k is the number of sleepers that own a record of its addresses.
+    /// Those on their lists are woken with them, and cost no try of their own.
     /// So [`Board::longest_turn`] says beforehand how long a turn can take. There are never more
     /// tries than tasks: then [`Refusal::Overtaken`] is answered, which no board that was opened and
     /// used by calls comes to.

@@ -3,8 +3,9 @@
 //! Each limit, each length and each clause of the check by itself is a case of `crates/try_limits/stdin`. What only C can
 //! show, such as sizes beyond 32 bits, is tried by `tests/refusals.c`.
 
+use crate::lists::BadLists;
 use crate::random::Random;
-use crate::requests::{some_request, some_task, Met};
+use crate::requests::{some_request, some_task, Met, Sort};
 use crate::second_machine::tables::{ask_library, load, open, store};
 use crate::second_machine::{Machine, TOP_VERSION};
 use chezumobari::{Answer, Looked, Sizes, Tables};
@@ -37,10 +38,11 @@ fn damage(random: &mut Random, sizes: Sizes, tables: &mut Tables) {
             let r = random.below(tables.records.len());
             &mut tables.records[r]
         }
-        3..=4 => {
-            let (t, column) = (random.below(tables.places.len()), random.below(3));
+        3 => {
+            let (t, column) = (random.below(tables.places.len()), random.below(4));
             &mut tables.places[t][column]
         }
+        4 => return another_list(random, sizes, tables),
         _ => {
             let (t, column) = (random.below(tables.places.len()), random.below(5));
             let used = tables.places[t][0].clamp(3, 63) as usize;
@@ -50,12 +52,24 @@ fn damage(random: &mut Random, sizes: Sizes, tables: &mut Tables) {
     *spot = edge(random, sizes, *spot);
 }
 
+/// Some task is on one list more or fewer, or on the list of what is no task. Mostly it is that of a sleeper, and a
+/// task that may be on one.
+fn another_list(random: &mut Random, sizes: Sizes, tables: &mut Tables) {
+    let phase = |t: usize| tables.places.get(t).map_or(0, |place| place[1]);
+    let mut some = |phases: &[u32], count: usize| {
+        let found = (0..4).map(|_| random.below(count)).find(|&t| phases.contains(&phase(t)));
+        found.unwrap_or_else(|| random.below(count))
+    };
+    let (t, w) = (some(&[3, 4, 7, 8], tables.places.len()), some(&[4], (sizes.tasks + 1).min(32)));
+    tables.places[t][3] ^= 1 << w;
+}
+
 /// One table gets any length.
 fn another_length(random: &mut Random, tables: &mut Tables) {
     match random.below(4) {
         0 => tables.words.resize(random.below(12), 0),
         1 => tables.records.resize(random.below(8), 1),
-        2 => tables.places.resize(random.below(6), [0; 3]),
+        2 => tables.places.resize(random.below(6), [0; 4]),
         _ => tables.entries.resize(random.below(320), [0; 5]),
     }
 }
@@ -72,7 +86,7 @@ fn another_size(random: &mut Random, sizes: &mut Sizes) {
 }
 
 /// One call on tables of any content. The second machine reads them in anew for it.
-fn one_call(random: &mut Random, sizes: Sizes, tables: &mut Tables, met: &mut Met) {
+fn one_call(random: &mut Random, sizes: Sizes, tables: &mut Tables, sort: Sort, met: &mut Met) {
     let mut expected = tables.clone();
     let loaded = load(sizes, &expected);
     if random.once_in(30) {
@@ -87,7 +101,7 @@ fn one_call(random: &mut Random, sizes: Sizes, tables: &mut Tables, met: &mut Me
     let task = some_task(random, sizes.tasks.clamp(1, 32));
     let shape = Sizes { words: tables.words.len().max(1), ..sizes };
     let blank = Machine::opened(1, 1, 1, 1);
-    let request = some_request(random, loaded.as_ref().unwrap_or(&blank), task, shape);
+    let request = some_request(random, loaded.as_ref().unwrap_or(&blank), task, shape, sort);
     let answer = ask_library(tables, sizes, task, request);
     let (number, value) = match loaded {
         None => (1, 0),
@@ -108,16 +122,40 @@ fn damaged_board(random: &mut Random, sizes: Sizes, met: &mut Met) -> u64 {
     let first = random.one_of(&[1, 2, TOP_VERSION - 1, TOP_VERSION]);
     assert_eq!(tables.open(sizes, first).number, 0);
     for _ in 0..random.below(60) {
-        one_call(random, sizes, &mut tables, met);
+        one_call(random, sizes, &mut tables, Sort::Any, met);
     }
     let times = 1 + random.below(3);
     for _ in 0..times {
         damage(random, sizes, &mut tables);
         for _ in 0..3 {
-            one_call(random, sizes, &mut tables, met);
+            one_call(random, sizes, &mut tables, Sort::Any, met);
         }
     }
     times as u64
+}
+
+/// The same where many listen, and the damage is to lists. On tables that are still sound tasks are stepped, so
+/// that lists which no step has made are woken too. Says how often it was damaged.
+fn damaged_lists_of(random: &mut Random, met: &mut Met, bad: &mut BadLists) -> u64 {
+    let sizes = Sizes { words: 4, records: 1 + random.below(4), tasks: 3 + random.below(6) };
+    let mut tables = Tables::for_sizes(sizes);
+    assert_eq!(tables.open(sizes, 1).number, 0);
+    for _ in 0..60 + random.below(120) {
+        one_call(random, sizes, &mut tables, Sort::Listeners, met);
+    }
+    let times = 8;
+    for _ in 0..times {
+        let before = tables.clone();
+        another_list(random, sizes, &mut tables);
+        bad.note(sizes, &tables);
+        for _ in 0..6 {
+            one_call(random, sizes, &mut tables, Sort::Listeners, met);
+        }
+        if load(sizes, &tables).is_none() {
+            tables = before;
+        }
+    }
+    times
 }
 
 fn small_sizes(random: &mut Random) -> Sizes {
@@ -136,6 +174,17 @@ fn damaged_tables() {
     assert!(met.numbers[1] > 10_000 && met.numbers[0] > 10_000);
 }
 
+#[test]
+fn damaged_lists() {
+    let mut random = Random::from_seed(8);
+    let (mut met, mut bad) = (Met::default(), BadLists::default());
+    for _ in 0..3_000 {
+        damaged_lists_of(&mut random, &mut met, &mut bad);
+    }
+    println!("{bad:?}");
+    bad.assert_more_than(1_000);
+}
+
 /// The check takes another room by the number of records, and compares many entries only where many share a record.
 #[test]
 #[ignore = "takes long: cargo test --release --test against_second_machine -- --ignored --nocapture"]
@@ -151,7 +200,12 @@ fn ten_million_damaged_tables() {
         };
         tables += damaged_board(&mut random, sizes, &mut met);
     }
+    let mut bad = BadLists::default();
+    for _ in 0..100_000 {
+        tables += damaged_lists_of(&mut random, &mut met, &mut bad);
+    }
     let calls: u64 = met.numbers.iter().sum();
+    println!("{bad:?}");
     println!("{tables} damaged tables, {calls} calls, {} of them on unsound tables: 0 differences", met.numbers[1]);
 }
 
@@ -164,7 +218,7 @@ fn any_lengths_and_sizes() {
         let mut tables = Tables::for_sizes(sizes);
         assert_eq!(tables.open(sizes, 1).number, 0);
         for _ in 0..random.below(12) {
-            one_call(&mut random, sizes, &mut tables, &mut met);
+            one_call(&mut random, sizes, &mut tables, Sort::Any, &mut met);
         }
         if random.once_in(2) {
             another_length(&mut random, &mut tables);
@@ -172,7 +226,7 @@ fn any_lengths_and_sizes() {
             another_size(&mut random, &mut sizes);
         }
         for _ in 0..3 {
-            one_call(&mut random, sizes, &mut tables, &mut met);
+            one_call(&mut random, sizes, &mut tables, Sort::Any, &mut met);
         }
     }
     assert!(met.numbers[1] > 10_000);

@@ -5,6 +5,7 @@
 //! ones, with tables of the right lengths and of wrong ones.
 
 mod damaged;
+mod lists;
 #[path = "../random.rs"]
 mod random;
 mod reached;

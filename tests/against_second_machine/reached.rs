@@ -1,7 +1,8 @@
 //! Tables reached from an opening. The second machine keeps its own state along the schedule.
 
+use crate::lists::Before;
 use crate::random::Random;
-use crate::requests::{some_request, some_task, Met};
+use crate::requests::{some_request, some_task, Met, Sort};
 use crate::second_machine::tables::{ask_library, open, store};
 use crate::second_machine::{Machine, Phase, Request, TOP_VERSION};
 use chezumobari::{Answer, Looked, Sizes, Tables};
@@ -16,7 +17,7 @@ fn some_sizes(random: &mut Random) -> Sizes {
 }
 
 /// Plays one schedule from an opening. The second machine keeps its own state and never reads the tables.
-fn play(random: &mut Random, sizes: Sizes, first: u32, calls: usize, met: &mut Met) {
+fn play(random: &mut Random, sizes: Sizes, first: u32, calls: usize, sort: Sort, met: &mut Met) {
     let mut tables = Tables::for_sizes(sizes);
     let mut expected = tables.clone();
     assert_eq!(tables.open(sizes, first).number, open(sizes, first, &mut expected));
@@ -34,11 +35,18 @@ fn play(random: &mut Random, sizes: Sizes, first: u32, calls: usize, met: &mut M
             if random.once_in(change) {
                 task = some_task(random, sizes.tasks);
             }
-            let request = some_request(random, &machine, task, sizes);
+            // a sleeper has no step to make
+            let asleep = |t: usize| machine.tasks.get(t).is_some_and(|it| it.phase == Phase::Asleep);
+            while sort == Sort::Listeners && asleep(task) && !random.once_in(12) {
+                task = some_task(random, sizes.tasks);
+            }
+            let request = some_request(random, &machine, task, sizes, sort);
             let answer = ask_library(&mut tables, sizes, task, request);
+            let before = Before::of(&machine);
             let (number, value) = machine.ask(task, request);
             assert_eq!(answer, Answer { number, value }, "{request:?} of task {task} on {sizes:?}");
             met.note(number);
+            met.lists.note(task, &before, &machine);
         }
         store(&machine, &mut expected);
         assert_eq!(tables, expected, "the tables differ on {sizes:?}");
@@ -53,7 +61,7 @@ fn many_short_schedules() {
         let sizes = some_sizes(&mut random);
         let first = random.one_of(&[1, 1, 1, TOP_VERSION - 1, TOP_VERSION]);
         let calls = 1 + random.below(if sizes.words == 4096 { 20 } else { 120 });
-        play(&mut random, sizes, first, calls, &mut met);
+        play(&mut random, sizes, first, calls, Sort::Any, &mut met);
     }
     for number in [0, 3, 4, 5, 7, 8, 9, 20, 21, 22, 23] {
         assert!(met.numbers[number] > 20, "number {number} was met {} times", met.numbers[number]);
@@ -67,11 +75,27 @@ fn a_few_long_schedules() {
     for (words, records, tasks, calls) in
         [(6, 3, 3, 100_000), (40, 40, 8, 40_000), (160, 64, 30, 20_000), (4096, 1024, 32, 4_000)]
     {
-        play(&mut random, Sizes { words, records, tasks }, 1, calls, &mut met);
+        play(&mut random, Sizes { words, records, tasks }, 1, calls, Sort::Any, &mut met);
     }
     for number in [21, 22, 23] {
         assert!(met.numbers[number] > 100, "number {number} was met {} times", met.numbers[number]);
     }
+}
+
+/// Many tasks that mostly listen to a few words: lists of many, and lists that lead on to others.
+#[test]
+fn many_listeners() {
+    let mut random = Random::from_seed(7);
+    let mut met = Met::default();
+    for _ in 0..4_000 {
+        let sizes = Sizes { words: 4, records: 1 + random.below(4), tasks: 4 + random.below(9) };
+        play(&mut random, sizes, 1, 400, Sort::Listeners, &mut met);
+    }
+    for _ in 0..30 {
+        play(&mut random, Sizes { words: 40, records: 8, tasks: 32 }, 1, 1_500, Sort::Listeners, &mut met);
+    }
+    println!("{:?}", met.lists);
+    met.lists.assert_more_than(50);
 }
 
 #[test]

@@ -1,5 +1,6 @@
 //! Random requests, and what they have met.
 
+use crate::lists::Lists;
 use crate::random::Random;
 use crate::second_machine::{Machine, Phase, Request};
 use chezumobari::Sizes;
@@ -8,6 +9,16 @@ use chezumobari::Sizes;
 #[derive(Default)]
 pub struct Met {
     pub numbers: [u64; 32],
+    pub lists: Lists,
+}
+
+/// What the tasks of a schedule are like.
+#[derive(Clone, Copy, Debug, PartialEq, Eq)]
+pub enum Sort {
+    Any,
+    /// They mostly read a word or two and wait, so that lists grow and lead on before somebody writes. Task 0
+    /// never waits: whoever listens wakes nobody.
+    Listeners,
 }
 
 impl Met {
@@ -17,7 +28,7 @@ impl Met {
 }
 
 /// A request that fits the task's phase more often than not.
-pub fn some_request(random: &mut Random, machine: &Machine, task: usize, sizes: Sizes) -> Request {
+pub fn some_request(random: &mut Random, machine: &Machine, task: usize, sizes: Sizes, sort: Sort) -> Request {
     let address = match random.below(40) {
         0 => sizes.words,
         1 => usize::MAX - random.below(3),
@@ -33,6 +44,13 @@ pub fn some_request(random: &mut Random, machine: &Machine, task: usize, sizes: 
     }
     match machine.tasks.get(task).map(|t| t.phase) {
         Some(Phase::Idle) => Request::Start,
+        Some(Phase::Open) if sort == Sort::Listeners => match random.below(20) {
+            0..=1 => Request::Commit,
+            2 => write,
+            3..=10 if task == 0 => write,
+            3..=10 => Request::Wait,
+            _ => Request::Read(random.below(sizes.words.min(4))),
+        },
         Some(Phase::Open) => match random.below(20) {
             0 => Request::Abort,
             1..=3 => Request::Commit,

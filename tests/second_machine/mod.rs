@@ -1,11 +1,14 @@
 //! A second machine, written from the specification alone.
 //!
 //! It shares no code and no layout with the library. A task keeps its addresses in one list and the
-//! versions of their records in another, once for each record, and a record is a Rust enum. The
-//! four tables appear only in `tables.rs`, which reads them in and writes them out.
+//! versions of their records in another, once for each record, and a record is a Rust enum. A sleeper
+//! keeps its list itself, as the set of those who joined it. The four tables appear only in
+//! `tables.rs`, which reads them in and writes them out.
 
 mod steps;
 pub mod tables;
+
+use std::collections::BTreeSet;
 
 // The specification's limits and widths, written here by hand and not taken from the package, so that a
 // wrong one there shows.
@@ -16,7 +19,7 @@ const MOST_TASKS: usize = 32;
 /// Rows of the entry table that are one task's.
 pub const RUN: usize = 64;
 /// Numbers in a task's row, and in an entry's.
-const PLACE_WIDTH: usize = 3;
+const PLACE_WIDTH: usize = 4;
 const ENTRY_WIDTH: usize = 5;
 
 #[derive(Clone, Copy, Debug, PartialEq, Eq)]
@@ -69,6 +72,8 @@ pub struct Task {
     pub phase: Phase,
     pub uses: Vec<Use>,
     pub marks: Vec<Mark>,
+    /// Those who sleep on records of this one.
+    pub list: BTreeSet<usize>,
 }
 
 #[derive(Clone, Debug, PartialEq, Eq)]
@@ -95,13 +100,7 @@ pub type Reply = (u32, u32);
 
 impl Task {
     pub fn idle() -> Task {
-        Task { phase: Phase::Idle, uses: Vec::new(), marks: Vec::new() }
-    }
-
-    fn drop_all(&mut self, phase: Phase) {
-        self.phase = phase;
-        self.uses.clear();
-        self.marks.clear();
+        Task { phase: Phase::Idle, uses: Vec::new(), marks: Vec::new(), list: BTreeSet::new() }
     }
 
     pub fn used(&self, address: usize) -> Option<usize> {
@@ -163,7 +162,7 @@ impl Machine {
             Request::Read(address) if phase == Phase::Open => self.read(task, address),
             Request::Write(address, value) if phase == Phase::Open => self.write(task, address, value),
             Request::Abort if phase == Phase::Open => {
-                self.tasks[task].drop_all(Phase::Idle);
+                self.goes_idle(task);
                 (0, 0)
             }
             Request::Commit if phase == Phase::Open => self.enter(task, Phase::Taking(Goal::Commit, 0)),
@@ -171,6 +170,17 @@ impl Machine {
             Request::Wait if phase == Phase::Open => self.enter(task, Phase::Taking(Goal::Sleep, 0)),
             Request::Step => self.step(task, phase),
             _ => (4, 0),
+        }
+    }
+
+    /// The transaction is over: nothing is used, and the task is on nobody's list.
+    fn goes_idle(&mut self, task: usize) {
+        let it = &mut self.tasks[task];
+        it.phase = Phase::Idle;
+        it.uses.clear();
+        it.marks.clear();
+        for other in &mut self.tasks {
+            other.list.remove(&task);
         }
     }
 
@@ -230,7 +240,7 @@ impl Machine {
         let it = &mut self.tasks[task];
         match it.marked(record) {
             Some(mark) if it.marks[mark].found != version => {
-                it.drop_all(Phase::Idle);
+                self.goes_idle(task);
                 return Err((9, 0));
             }
             Some(_) => {}

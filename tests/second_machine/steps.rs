@@ -29,7 +29,7 @@ impl Machine {
                 self.enter(task, Phase::Releasing(end, i + 1))
             }
             Phase::Releasing(end, _) => {
-                self.tasks[task].drop_all(Phase::Idle);
+                self.goes_idle(task);
                 let number = match end {
                     End::Committed => 21,
                     End::Failed => 22,
@@ -51,15 +51,30 @@ impl Machine {
             }
             Record::Version(_) => Phase::Releasing(End::Failed, 0),
             Record::Owner(owner) if owner == task => Phase::Taking(goal, i + 1),
+            Record::Owner(owner) if goal == Goal::Sleep && self.tasks[owner].phase == Phase::Asleep => {
+                if self.found(owner, record) != found {
+                    return Phase::Releasing(End::Failed, 0);
+                }
+                self.tasks[owner].list.insert(task);
+                Phase::Taking(goal, i + 1)
+            }
             Record::Owner(owner) => {
-                let met = &mut self.tasks[owner].phase;
-                *met = match mem::replace(met, Phase::Idle) {
-                    Phase::Taking(..) => Phase::Releasing(End::Failed, 0),
-                    Phase::Asleep => Phase::Releasing(End::Woken, 0),
-                    other => other,
-                };
+                self.ends(owner);
                 Phase::Releasing(End::Failed, 0)
             }
+        }
+    }
+
+    /// A task that is met ends, where it takes or sleeps, and then all on its list, and so on.
+    fn ends(&mut self, task: usize) {
+        let it = &mut self.tasks[task];
+        match it.phase {
+            Phase::Taking(..) => it.phase = Phase::Releasing(End::Failed, 0),
+            Phase::Asleep => it.phase = Phase::Releasing(End::Woken, 0),
+            _ => {}
+        }
+        for other in mem::take(&mut it.list) {
+            self.ends(other);
         }
     }
 

@@ -53,7 +53,9 @@ pub fn load(sizes: Sizes, tables: &Tables) -> Option<Machine> {
     }
     let tasks: Option<Vec<Task>> =
         (0..sizes.tasks).map(|t| load_task(sizes, tables.places[t], &tables.entries[RUN * t..RUN * (t + 1)])).collect();
-    let tasks = tasks?;
+    let mut tasks = tasks?;
+    let joins: Vec<u32> = tables.places.iter().map(|place| place[3]).collect();
+    load_lists(&joins, &mut tasks)?;
     let records: Option<Vec<Record>> =
         (0..sizes.records).map(|r| load_record(sizes, tables.records[r], r, &tasks)).collect();
     Some(Machine { words: tables.words.clone(), records: records?, tasks })
@@ -103,6 +105,24 @@ fn load_task(sizes: Sizes, place: [u32; PLACE_WIDTH], run: &[[u32; ENTRY_WIDTH]]
     Some(task)
 }
 
+/// The lists, from each task's set of the sleepers that it joined.
+fn load_lists(joins: &[u32], tasks: &mut [Task]) -> Option<()> {
+    for (task, &joined) in joins.iter().enumerate() {
+        for sleeper in (0..32).filter(|bit| joined >> bit & 1 == 1) {
+            let may_join =
+                matches!(tasks[task].phase, Phase::Taking(Goal::Sleep, _) | Phase::Asleep | Phase::Releasing(..));
+            let list = tasks.get_mut(sleeper).filter(|it| it.phase == Phase::Asleep && may_join)?;
+            list.list.insert(task);
+        }
+    }
+    // Tasks that nobody leads to are taken out one by one. Whoever is left then is on a way that comes back.
+    let mut left: Vec<usize> = (0..tasks.len()).collect();
+    while let Some(at) = left.iter().position(|task| !left.iter().any(|&other| tasks[other].list.contains(task))) {
+        left.remove(at);
+    }
+    left.is_empty().then_some(())
+}
+
 fn load_record(sizes: Sizes, number: u32, record: usize, tasks: &[Task]) -> Option<Record> {
     if number <= TOP_VERSION {
         return (number > 0).then_some(Record::Version(number));
@@ -129,7 +149,9 @@ pub fn store(machine: &Machine, tables: &mut Tables) {
     }
     for (t, task) in machine.tasks.iter().enumerate() {
         let (code, position) = stored_phase(task.phase);
-        tables.places[t] = [task.uses.len() as u32, code, position as u32];
+        let joined = machine.tasks.iter().enumerate().filter(|(_, other)| other.list.contains(&t));
+        let joins = joined.fold(0, |set, (sleeper, _)| set | 1 << sleeper);
+        tables.places[t] = [task.uses.len() as u32, code, position as u32, joins];
         for (i, used) in task.uses.iter().enumerate() {
             let record = used.address % machine.records.len();
             let mark = task.marks[task.marked(record).expect("a used address has a mark")];

@@ -1,4 +1,4 @@
-//! Transactions that span turns, with labels as whole turns among them, under schedules that are
+//! Transactions that span turns, with labels as whole turns among them, several on a word, under schedules that are
 //! chosen to be bad. Each writer adds 1 to each of its words, so that a lost one would be missed.
 
 use crate::random::Random;
@@ -112,7 +112,7 @@ fn order(order: Order, turn: u64, count: usize, writers: usize, random: &mut Ran
 fn game(seed: u64, tally: Tally) -> Tally {
     let mut random = Random::from_seed(seed);
     let (writers, words) = (2 + random.below(6), 1 + random.below(12));
-    let labels = random.below(words.min(20) + 1);
+    let labels = random.below(2 * words + 1);
     let board = Board::open(Sizes { words, records: words, tasks: writers + labels }, 1).unwrap();
     let shared = if random.once_in(2) { Shared::new(board).with_steps_apart() } else { Shared::new(board) };
     let game =
@@ -122,14 +122,16 @@ fn game(seed: u64, tally: Tally) -> Tally {
     for task in 0..writers {
         scheduler.add(task, game.writer(task, Random::from_seed(random.next())));
     }
-    for word in 0..labels {
+    for which in 0..labels {
         let (game, said) = (&game, &said);
-        let label = Label::new(writers + word, move |open| open.read(word));
-        let speak = move |&value: &u32| {
-            assert_eq!(value, game.shared.look(word).unwrap().value);
+        // the first ones have a word each, and the others two, which are those of others too
+        let (one, other) = (which % words, (which + which / words) % words);
+        let label = Label::new(writers + which, move |open| Ok([open.read(one)?, open.read(other)?]));
+        let speak = move |&values: &[u32; 2]| {
+            assert_eq!(values, [one, other].map(|word| game.shared.look(word).unwrap().value));
             said.set(said.get() + 1);
         };
-        scheduler.add(writers + word, async move { game.shared.label(label, speak).await.expect("a label goes on") });
+        scheduler.add(writers + which, async move { game.shared.label(label, speak).await.expect("a label goes on") });
     }
     let orders = [Order::Round, Order::Backwards, Order::Random, Order::LabelsAlways, Order::OneStarved];
     let chosen = random.one_of(&orders);

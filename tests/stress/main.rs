@@ -15,6 +15,9 @@ use std::process::ExitCode;
 pub struct Tally {
     commits: u64,
     sleeps: u64,
+    /// those of them that sleep with another, and the most that one list led to
+    joined: u64,
+    longest_list: usize,
     /// by the number of tasks in the way: commits, and those that took every try they might
     by_k: BTreeMap<usize, (u64, u64)>,
     most_calls: usize,
@@ -30,10 +33,16 @@ impl Tally {
         *last += u64::from(tries == k + 1);
     }
 
-    /// The same of a turn that ended asleep. No theorem says so: it is counted here.
-    pub fn asleep(&mut self, k: usize, tries: usize) {
-        assert!(tries <= k + 1, "asleep at try {tries} with {k} in the way");
+    /// A turn ended asleep. It is so at its first try, whoever sleeps there. No theorem says so: it is counted here.
+    pub fn asleep(&mut self, tries: usize, joined: bool) {
+        assert_eq!(tries, 1, "one that would sleep was in somebody's way");
         self.sleeps += 1;
+        self.joined += u64::from(joined);
+    }
+
+    /// A trade meets as many owners, and as many wake.
+    pub fn woken(&mut self, owners: usize, woken: usize) {
+        self.longest_list = self.longest_list.max(woken - owners);
     }
 
     pub fn calls(&mut self, calls: usize, most: usize) {
@@ -47,7 +56,9 @@ impl Tally {
         print!("{what}: {} commits. ", self.commits);
         print!("Each was through at try k + 1 or before, {last} of them at try k + 1, and k was up to {most}.");
         if self.sleeps > 0 {
-            print!(" {} turns ended asleep, no later. The longest turn had {} calls.", self.sleeps, self.most_calls);
+            print!(" {} turns ended asleep at their first try, {} of them on a list,", self.sleeps, self.joined);
+            print!(" and up to {} joined ones woke with those in the way.", self.longest_list);
+            print!(" The longest turn had {} calls.", self.most_calls);
         }
         println!();
     }
@@ -82,6 +93,7 @@ fn main() -> ExitCode {
         }
     };
     whole::one_tile(games).say("Every task on one tile");
+    whole::chains(games).say("Labels in a chain");
     whole::every_label(games).say("A trade that meets every label");
     whole::crossing(games).say("Writers that cross, each after its own sleep");
     whole::anything(40 * games).say("Whole turns at random");

@@ -21,6 +21,14 @@ impl Checked {
         self.board.phase(task) == Some(Phase::Idle)
     }
 
+    fn is_asleep(&self, task: usize) -> bool {
+        self.board.phase(task) == Some(Phase::Asleep)
+    }
+
+    fn sleepers(&self) -> Vec<usize> {
+        (0..self.board.sizes().tasks).filter(|&task| self.is_asleep(task)).collect()
+    }
+
     /// A task reads these words and sleeps on them.
     fn sleep(&mut self, task: usize, addresses: &[usize]) {
         self.turn(task, addresses, &mut |_| (addresses.to_vec(), false), false);
@@ -43,6 +51,7 @@ impl Checked {
         assert!(self.board.is_calm());
         let k = self.board.owners(area).len();
         let longest = self.board.longest_turn(area);
+        let (sleepers, woken) = (self.sleepers(), self.board.woken_by(area));
         let mut wrote = Vec::new();
         let mut tries = 0;
         let serial = &self.serial;
@@ -67,8 +76,15 @@ impl Checked {
             other => other.expect("a turn comes through"),
         };
         match turn.ended {
-            Ended::Committed => self.tally.through(k, turn.tries),
-            _ => self.tally.asleep(k, turn.tries),
+            Ended::Committed => {
+                self.tally.through(k, turn.tries);
+                self.tally.woken(k, woken.len());
+                assert!(sleepers.iter().all(|sleeper| woken.contains(sleeper) || self.is_asleep(*sleeper)));
+            }
+            _ => {
+                self.tally.asleep(turn.tries, (0..MOST_TASKS).any(|other| self.board.list(other).contains(&task)));
+                assert!(sleepers.iter().all(|&sleeper| self.is_asleep(sleeper)), "one that would sleep woke another");
+            }
         }
         self.tally.calls(turn.calls, longest.calls);
         if commits {
@@ -82,10 +98,10 @@ impl Checked {
     }
 }
 
-/// One record for all words: every label is in the way of every other, and of the trade.
+/// One record for all words: every label but the first joins the first, and the trade wakes them all with one try.
 pub fn one_tile(games: u64) -> Tally {
     let mut all = Checked::open(3, 1, MOST_TASKS, 1);
-    for _ in 0..games {
+    for game in 0..games {
         for label in 1..MOST_TASKS {
             if all.is_idle(label) {
                 all.sleep(label, &[0, 1, 2]);
@@ -94,6 +110,28 @@ pub fn one_tile(games: u64) -> Tally {
                 all.add(0, &[label % 3]);
             }
         }
+        for label in (1..MOST_TASKS).rev().filter(|label| game % 2 == 0 || label % 3 > 0) {
+            if all.is_idle(label) {
+                all.sleep(label, &[2, 1]);
+            }
+        }
+    }
+    all.tally
+}
+
+/// Each label sleeps on its own word and on that of the one before it, so that each list leads on to the next. A
+/// trade at the first word wakes all 31, and one in the middle those behind it.
+pub fn chains(games: u64) -> Tally {
+    let mut all = Checked::open(MOST_TASKS, MOST_TASKS, MOST_TASKS, 1);
+    for game in 0..games as usize {
+        for label in 1..MOST_TASKS {
+            if all.is_idle(label) {
+                all.sleep(label, &[label - 1, label]);
+            }
+        }
+        let first = if game % 3 == 0 { 0 } else { 11 * game % MOST_TASKS };
+        assert_eq!(all.board.woken_by(&[first]).len(), MOST_TASKS - first.max(1));
+        all.add(0, &[first, (first + 1 + game % 31) % MOST_TASKS]);
     }
     all.tally
 }
@@ -151,7 +189,8 @@ pub fn anything(games: u64) -> Tally {
         all.tally = tally;
         for _ in 0..200 {
             let task = random.below(all.board.sizes().tasks);
-            let (area, commits) = (some_words(&mut random, words), random.once_in(3));
+            // task 0 never sleeps: who sleeps wakes nobody
+            let (area, commits) = (some_words(&mut random, words), task == 0 || random.once_in(3));
             if !all.is_idle(task) {
                 continue;
             }

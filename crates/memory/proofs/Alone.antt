@@ -4,7 +4,7 @@ use mathlib.Core.Path.{_≡_, _∙_, subst, subst⁻¹}
 use mathlib.Core.Bool.{true}
 use lib.ListN.{length, replicate}
 use native.Mathlib.Omega.{arith}
-use Rattle.memory.specs.{Sizes, Commit, Committed, Taking, Writing, Releasing, Memory, place, entry, entries, bare, ended, sound, SP, numbers, phase, thenAnswers, AloneItCommits, ours}
+use Rattle.memory.specs.{Sizes, Commit, Committed, Taking, Writing, Releasing, Memory, place, entry, entries, moved, ended, sound, SP, numbers, phase, thenAnswers, AloneItCommits, ours}
 use Rattle.memory.proofs.Codes.{count-of, phase-of}
 use Rattle.memory.proofs.Facts.{entries-count}
 use Rattle.memory.proofs.Fresh.{entry-in}
@@ -21,7 +21,7 @@ module _ (z : Sizes) (t : ℕ) (lt : t < z .tasks) (c : Memory) where
   abbrev pub Over : Memory → Type 0
   Over m = Stands z t lt c m ended
 
-  lets-go-then : (m : Memory) → Stands z t lt c m (bare n (Releasing Committed 0)) → Reaches z t m n 21 Over
+  lets-go-then : (m : Memory) → Stands z t lt c m (moved (place c t) (Releasing Committed 0)) → Reaches z t m n 21 Over
   lets-go-then m S =
       subst (λ (k : ℕ). Reaches z t m k 21 Over) (count-of (S .own))
       (reaches z t m 21 Over _ over _ (lets-go z t lt Committed m (S .ok) (phase-of (S .own))))
@@ -31,9 +31,9 @@ module _ (z : Sizes) (t : ℕ) (lt : t < z .tasks) (c : Memory) where
           let E = L .standing in
           record { ok = E .ok; own = E .own; others = λ u ne. E .others u ne ∙ S .others u ne; entries = E .entries ∙ S .entries }
 
-  writes-then : (k : ℕ) (m : Memory) (j : ℕ) → k + j ≡ n → Stands z t lt c m (bare n (Writing j)) → Reaches z t m (k + suc n) 21 Over
+  writes-then : (k : ℕ) (m : Memory) (j : ℕ) → k + j ≡ n → Stands z t lt c m (moved (place c t) (Writing j)) → Reaches z t m (k + suc n) 21 Over
   writes-then zero m j s S =
-      let W = wrote-all z t lt c m (subst (λ (i : ℕ). Stands z t lt c m (bare n (Writing i))) (omega arith) S) in
+      let W = wrote-all z t lt c m (subst (λ (i : ℕ). Stands z t lt c m (moved (place c t) (Writing i))) (omega arith) S) in
       subst (λ (d : ℕ). Reaches z t m d 21 Over) (omega arith) (goes-on z t m 21 Over n (W .number) (lets-go-then _ (W .stands)))
   writes-then (suc k) m j s S =
       let W = writes z t lt c m j S (omega arith) in

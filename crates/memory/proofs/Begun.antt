@@ -7,7 +7,7 @@ use mathlib.Core.List.{List, [], _∷_, map, List·Memᴰ·head, List·Memᴰ·t
 use mathlib.Core.Bool.{true}
 use lib.ListN.{length}
 use native.Mathlib.Omega.{arith}
-use Rattle.memory.specs.{Sizes, Commit, Open, Taking, Place, Held, Version, Owner, Seen, Entry, Memory, steps, place, entry, entries, run, held, bare, logical, logicalAt, sound, ST, CM, RD, WR, call, leaves, numbers, rowsOf, _∈_, phase, KeepsOthers, Fresh, Entered, Use, reads, writes, useBy, addressOf, body, AllZero, ours}
+use Rattle.memory.specs.{Sizes, Commit, Open, Taking, Place, Held, Version, Owner, Seen, Entry, Memory, steps, place, entry, entries, run, held, moved, logical, logicalAt, sound, ST, CM, RD, WR, call, leaves, numbers, rowsOf, _∈_, phase, KeepsOthers, Fresh, Entered, Use, reads, writes, useBy, addressOf, body, AllZero, ours}
 use Rattle.memory.proofs.Tools.{all-map, all-snoc}
 use Rattle.memory.proofs.Codes.{count-of, phase-of}
 use Rattle.memory.proofs.Find.{find?}
@@ -152,7 +152,7 @@ module _ (z : Sizes) (t : ℕ) (A : ℕ → Type 0) where
       number : call z m₁ (CM t) .number ≡ 0
       number = one-number (rowsOf z m₁ (CM t) c) _ _ (numbers-given z m₁ (CM t)) (not-refused z m₁ t ok₁ lt _ [] 0 (λ d. d (B .opened)) refl)
 
-      here : place c t ≡ bare (place m₁ t .count) (Taking Commit 0)
+      here : place c t ≡ moved (place m₁ t) (Taking Commit 0)
       here = requests-leave z m₁ (CM t) number .0
 
       count : place c t .count ≡ place m₁ t .count

@@ -1,13 +1,13 @@
 -- How a machine is seen to break a claim: it differs from what the claim says in a number, or answers another number than ours does.
 use Prim.Native.Nat.{ℕ, _%_, _≤_}
 use mathlib.Core.Path.{_≡_, refl, sym, ap, _∙_, subst}
-use mathlib.Core.Logic.{_⊎_, inl, inr}
+use mathlib.Core.Logic.{_⊎_}
 use mathlib.Core.List.{List, [], _∷_}
 use mathlib.Core.Bool.{true, false}
 use lib.Dec.{eqb}
 use native.Mathlib.Omega.{arith}
 use borrow.Author.Tests.{eqb-false}
-use Rattle.memory.specs.{Sizes, Commit, Phase, Idle, Open, Taking, Owner, Place, Memory, memory, kindOf, held, place, entry, sound, opened, openBoard, look, Call, SP, RD, WR, call, Machine, boardAfter, small, phase, Row, Given, refusals, rowsOf, InRange, Fits, CallAnswers, OpeningAnswers, LookAnswers, Meets, Clash, ClashesEnd}
+use Rattle.memory.specs.{Sizes, Commit, Phase, Idle, Open, Taking, Owner, Place, Memory, memory, kindOf, goalOf, held, place, entry, sound, opened, openBoard, look, Call, SP, RD, WR, call, Machine, boardAfter, small, phase, Row, Given, refusals, rowsOf, InRange, Fits, CallAnswers, OpeningAnswers, LookAnswers, PlacesChange, Failing, EndsWith, struck, itself, ClashesEnd}
 use Rattle.memory.proofs.StepAnswers.{ending}
 use Rattle.memory.proofs.Answers.{one-number, numbers-given}
 use Rattle.memory.proofs.OpenAnswers.{opening-answers, look-answers}
@@ -61,13 +61,13 @@ other-look M z m a ne h =
     eqb-false _ _ ne
     (one-number ((1, sound z m ≡ false) ∷ (5, z .words ≤ a) ∷ []) (M .look z m a .number) (look z m a .number) (h z m a .0) (look-answers z m a .0))
 
--- where task 1 comes to a record that task 0 owns, a machine that keeps the claim has them clash
+-- where task 1 comes to a record that task 0 owns, a machine that keeps the claim has them clash, and ends task 0
 pub met : (M : Machine) (m : Memory) → sound small m ≡ true → phase m 1 ≡ Taking Commit 0 → place m 1 .count ≡ 1
-    → held m (entry small m 1 0 .address % small .records) ≡ Owner 0 → ClashesEnd M → Clash m 1 0 (M .call small m (SP 1) .after)
+    → held m (entry small m 1 0 .address % small .records) ≡ Owner 0 → ClashesEnd M → PlacesChange m 1 (M .call small m (SP 1) .after) Failing (EndsWith m 0)
 unfolding small
-met M m ok p n own h = go (h small m 1 ok (omega arith) 0 (eqb-false 0 1 refl))
-  where
-    go : (Meets small m 1 0 × Clash m 1 0 (M .call small m (SP 1) .after))
-        ⊎ ((Meets small m 1 0 → ⊥) × (place (M .call small m (SP 1) .after) 0 ≡ place m 0)) → Clash m 1 0 (M .call small m (SP 1) .after)
-    go (inl x) = x .1
-    go (inr x) = absurd (x .0 (Commit, 0, p, omega (arith, n), own, eqb-false 0 1 refl))
+met M m ok p n own h =
+    h small m 1 ok (omega arith) .0 0 Commit 0 (record { taking = p; within = omega (arith, n); owned = own; other = eqb-false 0 1 refl }) .2
+    (λ b. omega (arith, ap goalOf (b .0)))
+
+pub owner-ended : {m m′ : Memory} → PlacesChange m 1 m′ Failing (EndsWith m 0) → phase m′ 0 ≡ struck (phase m 0)
+owner-ended c = c .others 0 (eqb-false 0 1 refl) .0 itself .phase

@@ -1,13 +1,15 @@
--- A task whose Commit was just answered takes up to a record that another task owns, meets it, and lets go: all is as before, but
--- for the one met.
+-- A task whose Commit was just answered takes up to a record that another task owns, clashes with it, and lets go: all is as before,
+-- but for the one met and those who end with it.
 use Prim.Native.Nat.{ℕ, suc, _+_, _%_, _<_}
-use mathlib.Core.Path.{_≡_, refl, sym, ap, _∙_, subst}
+use mathlib.Core.Path.{_≡_, refl, sym, ap, _∙_, subst, subst⁻¹}
 use mathlib.Core.Logic.{inl, inr, _≢_, ⊎-elim}
 use mathlib.Core.Bool.{true}
 use native.Mathlib.Omega.{arith}
-use Rattle.memory.specs.{Sizes, Commit, Failed, Taking, Place, Version, Owner, Entry, Memory, place, entry, held, ended, moved, sound, SP, call, phase, struck, Clash}
+use Rattle.memory.specs.{Sizes, Commit, Failed, Taking, Place, goalOf, Version, Owner, Entry, Memory, place, entry, held, ended, sound, SP, call, has, Joined, phase, Ending, EndsWith, PlacesChange, Failing}
+use Rattle.memory.proofs.Tools.{everywhere}
 use Rattle.memory.proofs.Codes.{not-owner, count-of, phase-of}
 use Rattle.memory.proofs.Stores.{held-from, entry-from}
+use Rattle.memory.proofs.Leads.{led-from}
 use Rattle.memory.proofs.Facts.{owner-entry}
 use Rattle.memory.proofs.SoundLasts.{call-sound}
 use Rattle.memory.proofs.Tables.{words-back, records-back}
@@ -16,11 +18,29 @@ use Rattle.memory.proofs.OneStep.{meets}
 use Rattle.memory.proofs.LetGo.{LetGo, lets-go, freed, kept}
 use Rattle.memory.proofs.Takes.{Free, Taken, Took, takes-then}
 
+-- Where the same are on lists, the same end with u --------------------------------------------------------------------------------------------
+
+module _ (m m′ : Memory) (there : (t w : ℕ) → Joined m t w → Joined m′ t w) (back : (t w : ℕ) → Joined m′ t w → Joined m t w) (u : ℕ) where
+  ending-from : {q q′ : Place} → Ending m u q q′ → Ending m′ u q q′
+  ending-from E =
+      record {
+        count = E .count;
+        phase = E .phase;
+        joins = λ w. (
+          λ h. let k = E .joins w .0 h in (k .0, λ l. k .1 (led-from m′ m back u l)),
+          λ k. E .joins w .1 (k .0, λ l. k .1 (led-from m m′ there u l)),
+        );
+      }
+
+  pub ends-from : (v : ℕ) {q q′ : Place} → EndsWith m u v q q′ → EndsWith m′ u v q q′
+  ends-from v (led, apart) = (λ l. ending-from (led (led-from m′ m back u l)), λ n. apart (λ l. n (led-from m m′ there u l)))
+
+-- The fall -------------------------------------------------------------------------------------------------------------------------------------
+
 -- against the table at the beginning
 pub record Fell (z : Sizes) (c : Memory) (t u : ℕ) (m : Memory) : Type 0 where
   pub own : place m t ≡ ended
-  pub struck-one : place m u ≡ moved (place c u) (struck (phase c u))
-  pub others : (w : ℕ) → w ≢ t → w ≢ u → place m w ≡ place c w
+  pub others : (w : ℕ) → w ≢ t → EndsWith c u w (place c w) (place m w)
   pub words : m .words ≡ c .words
   pub records : m .records ≡ c .records
   pub entries : m .entries ≡ c .entries
@@ -42,14 +62,22 @@ module _ (z : Sizes) (t : ℕ) (lt : t < z .tasks) (c : Memory) (ok : sound z c 
     owns : held m (rec i) ≡ Owner u
     owns = ⊎-elim (λ x. x ∙ met) (λ x. not-owner (entry z c t i .old .version) u (sym (x .1 i hi refl) ∙ met)) (T .records (rec i))
 
-    abbrev Met : Type 0
-    Met = (call z m (SP t) .number ≡ 0) × Clash m t u d × ((w : ℕ) → w ≢ t → w ≢ u → place d w ≡ place m w)
+    meeting : (call z m (SP t) .number ≡ 0) × PlacesChange m t d Failing (EndsWith m u)
+    meeting = meets z t lt c m Commit i (T .standing) hi u ne owns (λ x. let k : _≡_ {A = ℕ} 0 1 = ap goalOf (x .0) in omega (arith, k))
 
-    meeting : Met
-    meeting = meets z t lt c m Commit i (T .standing) hi u ne owns
-
-    abbrev clashed : Clash m t u d
+    abbrev clashed : PlacesChange m t d Failing (EndsWith m u)
     clashed = meeting .1
+
+    -- the takes put nobody on a list, and take nobody off
+    same-joins : (w : ℕ) → place m w .joins ≡ place c w .joins
+    same-joins =
+        everywhere (λ w. place m w .joins ≡ place c w .joins) t (ap (λ (q : Place). q .joins) (T .standing .own))
+        (λ w ne. ap (λ (q : Place). q .joins) (T .standing .others w ne))
+
+    ends-so : (w : ℕ) → w ≢ t → EndsWith c u w (place c w) (place d w)
+    ends-so w nt =
+        ends-from m c (λ x y j. subst (λ (s : ℕ). has s y ≡ true) (same-joins x) j) (λ x y j. subst⁻¹ (λ (s : ℕ). has s y ≡ true) (same-joins x) j) u w
+        (subst (λ (q : Place). EndsWith m u w q (place d w)) (T .standing .others w nt) (clashed .others w nt))
 
     same-entry : (k : ℕ) → entry z d t k ≡ entry z c t k
     same-entry k = entry-from c d z (clashed .entries ∙ T .standing .entries) t k
@@ -61,8 +89,7 @@ module _ (z : Sizes) (t : ℕ) (lt : t < z .tasks) (c : Memory) (ok : sound z c 
     fell m′ L =
         record {
           own = L .standing .own;
-          struck-one = L .standing .others u ne ∙ clashed .owner ∙ ap (λ (q : Place). moved q (struck (q .phase))) (T .standing .others u ne);
-          others = λ w nt nu. L .standing .others w nt ∙ meeting .2 w nt nu ∙ T .standing .others w nt;
+          others = λ w nt. subst⁻¹ (λ (q : Place). EndsWith c u w (place c w) q) (L .standing .others w nt) (ends-so w nt);
           words = words-back z d m′ okd (L .standing .ok) (L .words) ∙ clashed .words ∙ words-back z c m ok (T .standing .ok) (T .words);
           records = records-back z c m′ ok (L .standing .ok) (λ r h. back r h (T .records r));
           entries = L .standing .entries ∙ clashed .entries ∙ T .standing .entries;

@@ -5,7 +5,7 @@ use mathlib.Core.Logic.{_⊎_, inl, inr, _≢_, ⊎-elim}
 use mathlib.Core.Bool.{true}
 use native.Mathlib.Omega.{arith}
 use native.Mathlib.Nat.{mod-lt}
-use Rattle.memory.specs.{Sizes, Outcome, Committed, Failed, Woken, Releasing, Place, Held, Version, Owner, Entry, Memory, steps, place, entry, held, bare, ended, sound, endNumber, SP, call, phase, final, TheWokenEnds, ours}
+use Rattle.memory.specs.{Sizes, Outcome, Committed, Failed, Woken, Releasing, Place, Held, Version, Owner, Entry, Memory, steps, place, entry, held, moved, ended, sound, endNumber, SP, call, phase, final, TheWokenEnds, ours}
 use Rattle.memory.proofs.Codes.{phase-of}
 use Rattle.memory.proofs.Facts.{some-record, agree, owns-none}
 use Rattle.memory.proofs.Fresh.{in-entries}
@@ -35,8 +35,8 @@ module _ (z : Sizes) (t : ℕ) (lt : t < z .tasks) (o : Outcome) (b : Memory) (o
   abbrev pub LetGo : Memory → Place → Type 0
   LetGo m q = Since z t lt b Back m q
 
-  lets-one : (m : Memory) (j : ℕ) → LetGo m (bare n (Releasing o j)) → j < n
-      → (call z m (SP t) .number ≡ 0) × LetGo (call z m (SP t) .after) (bare n (Releasing o (suc j)))
+  lets-one : (m : Memory) (j : ℕ) → LetGo m (moved (place b t) (Releasing o j)) → j < n
+      → (call z m (SP t) .number ≡ 0) × LetGo (call z m (SP t) .after) (moved (place b t) (Releasing o (suc j)))
   lets-one m j L h =
       ⊎-elim (λ q. let S = frees z t lt b m o j (L .standing) h q in (S .number, since-but z t lt b L S (given q (L .records (rec j)))))
       (λ q. let S = passes z t lt b m o j (L .standing) h q in (S .number, since-same z t lt b L S)) (is-owner? (held m (rec j)) t)
@@ -44,9 +44,9 @@ module _ (z : Sizes) (t : ℕ) (lt : t < z .tasks) (o : Outcome) (b : Memory) (o
       given : held m (rec j) ≡ Owner t → Back (rec j) (held m (rec j)) → Back (rec j) (Version (final o (e j)))
       given q x = inr (⊎-elim (λ y. sym y ∙ q) (λ y. y .0) x, λ k d s. ap Version (final-same o (e j) (e k) (agree z b okb t lt j k h d (sym s))))
 
-  lets-all : (k : ℕ) (m : Memory) (j : ℕ) → k + j ≡ n → LetGo m (bare n (Releasing o j)) → Reaches z t m k (endNumber o) (λ m′. LetGo m′ ended)
+  lets-all : (k : ℕ) (m : Memory) (j : ℕ) → k + j ≡ n → LetGo m (moved (place b t) (Releasing o j)) → Reaches z t m k (endNumber o) (λ m′. LetGo m′ ended)
   lets-all zero m j s L =
-      let S = ends z t lt b m o (subst (λ (i : ℕ). Stands z t lt b m (bare n (Releasing o i))) (omega arith) (L .standing)) in
+      let S = ends z t lt b m o (subst (λ (i : ℕ). Stands z t lt b m (moved (place b t) (Releasing o i))) (omega arith) (L .standing)) in
       arrives z t m _ _ (S .number) (since-same z t lt b L S)
   lets-all (suc k) m j s L = let x = lets-one m j L (omega arith) in goes-on z t m _ _ k (x .0) (lets-all k _ (suc j) (omega arith) (x .1))
 

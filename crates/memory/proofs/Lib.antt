@@ -3,17 +3,23 @@
 -- tests, codecs, searches, stores, and what a sound table gives
 pub mod Machine
 pub mod Tools
+pub mod Sets
+pub mod Leads
 pub mod Codes
 pub mod Cases
 pub mod Find
 pub mod Limits
 pub mod Stores
+pub mod Clashes
 pub mod Facts
 pub mod Fresh
+pub mod Struck
 pub mod Tables
 -- the step, taken apart once; soundness lasts; what a call leaves alone
 pub mod Went
+pub mod ListsLast
 pub mod Lasts
+pub mod Woken
 pub mod SoundSteps
 pub mod SoundReads
 pub mod SoundLasts
@@ -25,10 +31,13 @@ pub mod Logs
 pub mod Mentions
 pub mod Open
 pub mod Steps
+pub mod Decides
+pub mod Wake
 pub mod Look
 pub mod View
 pub mod Good
 pub mod GoodReads
+pub mod GoodClashes
 pub mod GoodSteps
 pub mod Theorem
 pub mod Serial
@@ -44,6 +53,7 @@ pub mod OpenAnswers
 pub mod Effects
 pub mod Rows
 pub mod Stepping
+pub mod ListsMean
 pub mod Meanings
 -- it comes through: alone, and as a whole turn
 pub mod Runs
@@ -54,6 +64,7 @@ pub mod LetGo
 pub mod Begun
 pub mod Falls
 pub mod Tries
+pub mod Rising
 pub mod WholeTurns
 pub mod SameBoard
 pub mod SameAnswers
@@ -72,6 +83,7 @@ pub mod Needed
 -- slips are refuted
 pub mod SlipsEntries
 pub mod SlipsWhole
+pub mod SlipsLists
 pub mod Slips
 -- boards that compute
 pub mod PositionsHold

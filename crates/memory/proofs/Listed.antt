@@ -1,12 +1,12 @@
 -- Every transaction that commits is in the list, from its deciding step on, and is put there once.
-use Prim.Native.Nat.{ℕ, _<_}
+use Prim.Native.Nat.{ℕ, suc, _<_}
 use mathlib.Core.Path.{_≡_, refl, sym, ap, _∙_, subst, subst⁻¹}
 use mathlib.Core.Logic.{_⊎_, inl, inr, _≢_}
 use mathlib.Core.List.{List, [], _∷_, List·Memᴰ·head, List·Memᴰ·tail}
 use mathlib.Core.Bool.{Bool, true, false, false≢true}
 use lib.Dec.{eqb}
 use native.Mathlib.Omega.{arith}
-use Rattle.memory.specs.{if_then_else_, Sizes, Commit, Sleep, Committed, Failed, Woken, Phase, Open, Taking, Asleep, Releasing, Place, Entry, Memory, isIdle, isOpen, steps, wakes, kindOf, whichOf, positionOf, committed, place, bare, ended, setPlace, move, topVersion, sound, Reply, reply, refused, opened, openBoard, start, abort, commit, wait, fresh, known, added, written, rewrite, read, store, write, Call, ST, CM, AB, WT, SP, RD, WR, call, asker, _∈_, Op, Notes, nothing, logged, decides, stepped, noted, Event, request, lookup, opening, listed, Scene, scene, begun, next, ran, reached, refusal, Clashed, phase, Opened, CommittedIsListed}
+use Rattle.memory.specs.{if_then_else_, Sizes, Commit, Sleep, Committed, Failed, Woken, Phase, Open, Taking, Asleep, Releasing, Place, Entry, Memory, isIdle, isOpen, steps, wakes, kindOf, whichOf, positionOf, committed, place, bare, ended, setPlace, move, topVersion, sound, joined, Reply, reply, refused, opened, openBoard, start, abort, commit, wait, fresh, known, added, written, rewrite, read, store, write, Call, ST, CM, AB, WT, SP, RD, WR, call, asker, _∈_, Op, Notes, nothing, logged, decides, stepped, noted, Event, request, lookup, opening, listed, Scene, scene, begun, next, ran, reached, refusal, Clashed, phase, Opened, CommittedIsListed}
 use Rattle.memory.proofs.Tools.{same?, if-cases, upd-other}
 use Rattle.memory.proofs.Codes.{phase-of}
 use Rattle.memory.proofs.Cases.{no-refusal, opening-cases, asked-cases, addressed-cases}
@@ -14,9 +14,10 @@ use Rattle.memory.proofs.Stores.{place-same, rewrite-places, place-from
 use Rattle.memory.proofs.Facts.{in-places}
 use Rattle.memory.proofs.Fresh.{added-place}
 use Rattle.memory.proofs.Narrow.{others-place}
+use Rattle.memory.proofs.Wake.{ending-committed}
 use Rattle.memory.proofs.Good.{never-self, refused-notes}
 use Rattle.memory.proofs.Serial.{Fine, always}
-use Rattle.memory.proofs.Went.{Does, takes, has, late, meets, chooses, writes, wrote-all, gives, passes, Went, moves, rests, ends, step-goes, moved-to, lands, step-cases}
+use Rattle.memory.proofs.Went.{Does, takes, has, late, meets, differs, chooses, writes, wrote-all, gives, passes, Went, moves, joins, rests, ends, step-goes, moved-to, lands, step-cases}
 use Rattle.memory.proofs.Effects.{opened-so, opening-leaves}
 
 -- each task that counts as committed has its log in the list
@@ -34,7 +35,8 @@ module _ (z : Sizes) (m : Memory) (t : ℕ) where
   adds (takes g i h e) = inr (λ q. omega (arith, h, ap positionOf q), refl, λ c. absurd (false≢true c))
   adds (has g i h e) = inr (λ q. omega (arith, h, ap positionOf q), refl, λ c. absurd (false≢true c))
   adds (late g i h v e x) = inr (λ q. omega (arith, h, ap positionOf q), refl, λ c. absurd (false≢true c))
-  adds (meets g i h u e x) = inr (λ q. omega (arith, h, ap positionOf q), refl, λ c. absurd (false≢true c))
+  adds (meets g i h u e x j s) = inr (λ q. omega (arith, h, ap positionOf q), refl, λ c. absurd (false≢true c))
+  adds (differs i h u e x w v) = inr (λ q. omega (arith, ap whichOf q), refl, λ c. absurd (false≢true c))
   adds (chooses Commit) = inl (refl, refl)
   adds (chooses Sleep) = inr (λ q. omega (arith, ap whichOf q), refl, λ c. absurd (false≢true c))
   adds (writes i h) = inr (λ q. omega (arith, ap kindOf q), refl, λ c. refl)
@@ -44,6 +46,9 @@ module _ (z : Sizes) (m : Memory) (t : ℕ) where
 
   went-adds : sound z m ≡ true → t < z .tasks → {p : Phase} {r : Reply} → phase m t ≡ p → Went z m t p r → Adds p (phase (r .after) t)
   went-adds ok lt q (moves {p = p} d) = subst⁻¹ (λ (x : Place). Adds p (x .phase)) (lands z m t ok lt d) (adds d)
+  went-adds ok lt q (joins i h u e x w v) =
+      subst⁻¹ (λ (x : Place). Adds (Taking Sleep i) (x .phase)) (place-same m t (joined z u (place m t) (Taking Sleep (suc i))) (in-places z m ok t lt))
+      (unfold joined in inr (λ q. omega (arith, ap whichOf q), refl, λ c. absurd (false≢true c)))
   went-adds ok lt q rests = subst⁻¹ (Adds Asleep) q (inr (λ q. omega (arith, ap kindOf q), refl, λ c. c))
   went-adds ok lt q (ends o) =
       subst⁻¹ (λ (x : Place). Adds (Releasing o (place m t .count)) (x .phase)) (place-same m t ended (in-places z m ok t lt))
@@ -53,6 +58,7 @@ module _ (z : Sizes) (m : Memory) (t : ℕ) where
   ends-committed : {p : Phase} {r : Reply} → Went z m t p r → r .number ≡ 21 → committed p ≡ true
   ends-committed (moves {p = p} {p′ = p′} d) =
       if-cases (λ (k : ℕ). k ≡ 21 → committed p ≡ true) (wakes p′) _ _ (λ c e. absurd (omega (arith, e))) (λ c e. absurd (omega (arith, e)))
+  ends-committed (joins i h u e x w v) = λ e. absurd (omega (arith, e))
   ends-committed rests = λ e. absurd (omega (arith, e))
   ends-committed (ends Committed) = λ e. refl
   ends-committed (ends Failed) = λ e. absurd (omega (arith, e))
@@ -101,13 +107,9 @@ module _ (G : Notes) where
     others-phase : (c : Call) (u : ℕ) → u ≢ asker c → committed (phase (call z m c .after) u) ≡ true → committed (phase m u) ≡ true
     others-phase c u ne h = go (others-place z m c u ne)
       where
-        now : (q : Place) → place (call z m c .after) u ≡ q → committed (q .phase) ≡ true
-        now q e = sym (ap (λ (x : Place). committed (x .phase)) e) ∙ h
-
         go : (place (call z m c .after) u ≡ place m u) ⊎ Clashed (place m u) (place (call z m c .after) u) → committed (phase m u) ≡ true
-        go (inl e) = now _ e
-        go (inr (inl (f, e))) = absurd (false≢true (now _ e))
-        go (inr (inr (f, e))) = absurd (false≢true (now _ e))
+        go (inl e) = sym (ap committed (phase-of e)) ∙ h
+        go (inr k) = sym (ap committed (k .phase) ∙ ending-committed (phase m u)) ∙ h
 
     -- the task's own call
     module _ (I : In m G) (t : ℕ) where

@@ -11,8 +11,11 @@ use native.Mathlib.Nat.{mod-lt}
 use borrow.Author.Tests.{ltb-true, lt-ltb, eqb-true, eq-eqb}
 use Rattle.memory.specs.{if_then_else_, Sizes, Goal, Outcome, Committed, Failed, Woken, Phase, Idle, Open, Taking, Asleep, Writing, Releasing, Held, Version, Owner, Seen, Entry, Memory, positionOf, isIdle, steps, committed, rowOf, place, placeOf, entry, entries, held, heldOf, numberOf, limit, index, indexOf, indexOn, blank, shows, ownedAt, logicalAt, logical, sound, sizesOk, entryOk, heldOk, taskOk, countsFrom, _∈_, phase, New, rowOfEntry, runStart, Figures, Layout, SoundEntry, SoundTask, SoundOwner, SoundTable, SoundMeans, OneTest, shown, LogicalAt, LogicalMeans, OneSight}
 use Rattle.memory.proofs.Tools.{both, and-0, and-1, and-make, or-left-make, or-right-make, below-make, within-of, within-make}
+use Rattle.memory.proofs.Sets.{has-shift}
 use Rattle.memory.proofs.Codes.{place-back, entry-back, version-back, owner-back, is-idle}
-use Rattle.memory.proofs.Facts.{sizes, lengths, record-ok, some-record, owner-task}
+use Rattle.memory.proofs.Facts.{sizes, lengths, record-ok, some-record, owner-task, joins-small}
+use Rattle.memory.proofs.ListsLast.{lists-make}
+use Rattle.memory.proofs.ListsMean.{lists-told, lists-tested}
 use Rattle.memory.proofs.Lasts.{Task, On, task-of, task-make, owner-of, owner-make}
 use Rattle.memory.proofs.Find.{find?, index-found, index-some}
 use Rattle.memory.proofs.Fresh.{entry-in, agreed, one-entry}
@@ -46,6 +49,8 @@ layout =
       committed = λ n i. refl;
       failed = λ n i. refl;
       woken = λ n i. refl;
+      joined = λ q. refl;
+      set = λ s t. (λ e. eqb-true _ _ (sym (has-shift s t) ∙ e), λ e. has-shift s t ∙ eq-eqb _ _ e);
       place-read-back = place-back;
       entry = λ e. refl;
       entry-read-back = entry-back;
@@ -147,16 +152,19 @@ module _ (z : Sizes) (m : Memory) where
         each-task = λ t h. told t (task-of z m ok t h);
         versions = λ r v h q. unfold heldOk in within-of (subst (λ (k : Held). heldOk z m r k ≡ true) q (record-ok z m ok r h));
         owners = λ r t h q. owner-told r t (owner-task z m ok r t h q) (owner-of z m ok r t h q);
+        joins = joins-small z m ok;
+        lists = λ t w h. lists-told z m ok t w;
       }
 
   pub makes : SoundTable z m → sound z m ≡ true
   unfolding sound sizesOk
   makes S =
-      and-make (and-make (and-make
+      and-make (and-make (and-make (and-make
       (and-make (and-make (within-make (S .words)) (within-make (S .records))) (within-make (S .tasks)))
       (fits-in z m (S .lengths)))
       (below-make (z .tasks) (λ t. taskOk z m t) (λ t h. task-make z m t (tested t (S .each-task t h)))))
-      (below-make (z .records) (λ r. heldOk z m r (held m r)) (λ r h. holds r h (held m r) refl))
+      (below-make (z .records) (λ r. heldOk z m r (held m r)) (λ r h. holds r h (held m r) refl)))
+      (lists-make z m (lists-tested z m (S .joins) (S .lists)))
     where
       holds : (r : ℕ) → r < z .records → (k : Held) → held m r ≡ k → heldOk z m r (held m r) ≡ true
       holds r h (Version v) q = ap (heldOk z m r) q ∙ (unfold heldOk in within-make (S .versions r v h q))

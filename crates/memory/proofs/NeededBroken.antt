@@ -6,10 +6,10 @@ use mathlib.Core.Bool.{false≢true}
 use lib.ListN.{length, getD}
 use native.Mathlib.Omega.{arith}
 use borrow.Author.Tests.{eqb-false}
-use Rattle.memory.specs.{Memory, memory, limit, opened, ST, CM, AB, RD, small, boardAfter, writes7, commits, CallAnswers, OpeningAnswers, LookAnswers, RefusalsKeep, RefusedOpeningsKeep, CallsAreNarrow, RequestsLeave, EntriesStored, StepsLeave, ClashesEnd, SoundLasts, OpeningLeaves, OpeningIsSound}
+use Rattle.memory.specs.{Memory, memory, kindOf, limit, opened, ST, CM, AB, RD, small, boardAfter, writes7, commits, CallAnswers, OpeningAnswers, LookAnswers, RefusalsKeep, RefusedOpeningsKeep, CallsAreNarrow, RequestsLeave, EntriesStored, StepsLeave, ClashesEnd, SoundLasts, OpeningLeaves, OpeningIsSound}
 use Rattle.memory.specs.Thirteen.{startSays1, openingSays1, lookSays5First, refusedStartOpens, refusedOpeningClears, startWrites, abortDoesNothing, readScribbles, writingStays, ownerStays, startWidens, openingWrites, openingLeavesNoRows}
 use Rattle.memory.proofs.Machine.{machine}
-use Rattle.memory.proofs.Breaks.{differ, phaseKind, other-look, met, after, nothing}
+use Rattle.memory.proofs.Breaks.{differ, phaseKind, other-look, met, owner-ended, after, nothing}
 
 pub start-says-1 : CallAnswers startSays1 → ⊥
 unfolding machine small boardAfter after
@@ -51,7 +51,7 @@ writing-stays h = eqb-false 0 7 refl (h small (after (writes7 ++ commits 2)) 0 r
 -- task 1 comes to a record that task 0 owns in Taking
 pub owner-stays : ClashesEnd ownerStays → ⊥
 unfolding machine small boardAfter after writes7 commits
-owner-stays h = differ phaseKind (met ownerStays (after (ST 1 ∷ RD 1 1 ∷ writes7 ++ commits 1 ++ CM 1 ∷ [])) refl refl refl refl h .owner) refl
+owner-stays h = differ kindOf (owner-ended (met ownerStays (after (ST 1 ∷ RD 1 1 ∷ writes7 ++ commits 1 ++ CM 1 ∷ [])) refl refl refl refl h)) refl
 
 pub start-widens : SoundLasts startWidens → ⊥
 unfolding machine small boardAfter after

@@ -9,15 +9,15 @@ use lib.ListN.{length, set, take, drop, length-set}
 use lib.Seq.{getD-set-same, getD-set-other, drop-set-add, take-set-le}
 use native.Mathlib.Omega.{arith}
 use borrow.Author.Tests.{ltb-true}
-use Rattle.memory.specs.{Sizes, Open, Entry, Memory, memory, phaseOf, placeOf, place, bare, entry, entryOf, rowOfEntry, entries, limit, runStart, setWord, setPlace, setEntry, sound, entryOk, held, ST, AB, RD, call, ours, KeepsOthers, Given, refusal, rowsOf, phase, Entered, Promised, Needed, call-answers, refusals-keep, calls-are-narrow, requests-leave, entries-stored, sound-lasts}
+use Rattle.memory.specs.{Sizes, Open, Entry, Memory, memory, phaseOf, placeOf, place, bare, entry, entryOf, rowOfEntry, entries, limit, runStart, setWord, setPlace, setEntry, sound, listsOk, joinsOk, joinOk, onList, entryOk, held, ST, AB, RD, call, ours, KeepsOthers, Given, refusal, rowsOf, phase, Entered, Promised, Needed, call-answers, refusals-keep, calls-are-narrow, requests-leave, entries-stored, sound-lasts}
 use Rattle.memory.specs.Thirteen.{withPlaces, mark, scribbled, startSays1, refusedStartOpens, startWrites, abortDoesNothing, readScribbles, startWidens}
 use Rattle.memory.proofs.Tools.{if-cases}
 use Rattle.memory.proofs.Cases.{no-refusal}
 use Rattle.memory.proofs.AlikeReplies.{allowed}
 use Rattle.memory.proofs.Limits.{limit-some, places-apart}
 use Rattle.memory.proofs.Stores.{entry-other}
-use Rattle.memory.proofs.Facts.{Apart, in-places}
-use Rattle.memory.proofs.Lasts.{task-of, owner-of, sound-step}
+use Rattle.memory.proofs.Facts.{Apart, in-places, lists-ok}
+use Rattle.memory.proofs.Lasts.{task-of, owner-of, sound-listed}
 use Rattle.memory.proofs.Narrow.{untouched}
 use Rattle.memory.proofs.Meanings.{means}
 use Rattle.memory.proofs.NeededBroken.{start-says-1, refused-start-opens, start-writes, abort-does-nothing, read-scribbles, start-widens}
@@ -35,7 +35,7 @@ module _ (z : Sizes) (m : Memory) (ok : sound z m ≡ true) (w : List ℕ) (l : 
   unfolding place
   sound-beside lw ll others own =
       let T = task-of z m ok t lt in
-      sound-step z m m′ t ok (λ u ne. refl) others (record { words = lw; records = refl; places = refl; entries = ll })
+      sound-listed z m m′ t ok (λ u ne. refl) others (record { words = lw; records = refl; places = refl; entries = ll })
       (record {
         row = T .row;
         few = T .few;
@@ -54,6 +54,7 @@ module _ (z : Sizes) (m : Memory) (ok : sound z m ≡ true) (w : List ℕ) (l : 
             let o = owner-of z m ok r t h (unfold held in q) in
             (o .0, o .1, o .2, o .3, ap (λ (e : Entry). e .address % z .records) (own (o .1) (o .2)) ∙ o .4),
       ))
+      (unfold listsOk joinsOk joinOk onList in lists-ok z m ok)
 
 pub word-sound : (z : Sizes) (x : Memory) → sound z x ≡ true → sound z (setWord x 0 1) ≡ true
 unfolding setWord
@@ -67,10 +68,10 @@ unfolding entry
 own-row z m t x row K =
     record { words = K .words; records = K .records; places = λ u ne. getD-set-other (x .places) t u row [] ne ∙ K .places u ne; runs = K .runs }
 
--- a row of four numbers reads as one of three
-wide-row : (x : Memory) (t : ℕ) → t < length (x .places) → place (withPlaces x (set (x .places) t (0 ∷ 1 ∷ 0 ∷ 0 ∷ []))) t ≡ bare 0 Open
+-- a row of five numbers reads as one of four
+wide-row : (x : Memory) (t : ℕ) → t < length (x .places) → place (withPlaces x (set (x .places) t (0 ∷ 1 ∷ 0 ∷ 0 ∷ 0 ∷ []))) t ≡ bare 0 Open
 unfolding place placeOf phaseOf
-wide-row x t h = ap placeOf (getD-set-same (x .places) t (0 ∷ 1 ∷ 0 ∷ 0 ∷ []) [] h)
+wide-row x t h = ap placeOf (getD-set-same (x .places) t (0 ∷ 1 ∷ 0 ∷ 0 ∷ 0 ∷ []) [] h)
 
 -- A Read that scribbles: of the entries of all tasks none is where it writes
 module _ (z : Sizes) (t : ℕ) (x : Memory) where

@@ -7,16 +7,17 @@ use lib.Dec.{eqb}
 use lib.ListN.{drop}
 use native.Mathlib.Omega.{arith}
 use borrow.Author.Tests.{ltb-true, eqb-true, eqb-false, not-true}
-use Rattle.memory.specs.{Sizes, Failed, Taking, Asleep, Writing, Releasing, Held, Version, Owner, Place, Memory, kindOf, positionOf, is, held, entry, move, sound, Reply, reply, if_then_else_, SP, call, ours, Given, refusal, rowsOf, phase, Meets, Steps, Promised, Claim, Needed, call-answers, steps-leave, clashes-end}
+use Rattle.memory.specs.{Sizes, Goal, Failed, Taking, Asleep, Writing, Releasing, Held, Version, Owner, Place, Memory, kindOf, positionOf, is, held, entry, move, sound, Reply, reply, wakes, if_then_else_, SP, call, ours, Given, refusal, rowsOf, phase, Meets, Steps, Promised, Claim, Needed, call-answers, steps-leave, clashes-end}
 use Rattle.memory.specs.Thirteen.{another, comesToAnother, writingStays, ownerStays}
 use Rattle.memory.proofs.Tools.{and-0, and-1, if-cases}
 use Rattle.memory.proofs.Cases.{no-refusal}
 use Rattle.memory.proofs.AlikeReplies.{allowed, others-give}
 use Rattle.memory.proofs.Went.{moved-to}
-use Rattle.memory.proofs.Codes.{is-taking, not-owner, owner-inj}
+use Rattle.memory.proofs.Codes.{is-taking}
 use Rattle.memory.proofs.Narrow.{still, moves-on}
 use Rattle.memory.proofs.SoundSteps.{phase-sound}
 use Rattle.memory.proofs.NeededBroken.{writing-stays, owner-stays}
+use Rattle.memory.proofs.Stepping.{owned-by, alone, elsewhere}
 use Rattle.memory.proofs.NeededTools.{But, ours-but, steps}
 
 -- the number 0 says of the memory that is left only that the task does not sleep
@@ -26,11 +27,11 @@ awake z m t x x′ {n} e ne =
     (λ _. ⊎-elim (λ g. absurd (omega (arith, e, g .1))) (λ g. inr (ne, g .1)))
 
 -- the test for which the owner stays
-comes : (z : Sizes) (m : Memory) (t : ℕ) → comesToAnother z m t ≡ true → (u : ℕ) × Meets z m t u
+comes : (z : Sizes) (m : Memory) (t : ℕ) → comesToAnother z m t ≡ true → (u : ℕ) × (g : Goal) × (i : ℕ) × Meets z m t u g i
 comes z m t c =
     let (g, i, q) = is-taking (phase m t) (search (and-0, and-1)) in
     let (u, o, ne) = owned (held m (entry z m t (positionOf (phase m t)) .address % z .records)) (search (and-0, and-1)) in
-    (u, (g, positionOf (phase m t), q ∙ ap (Taking g) (sym (ap positionOf q)), ltb-true _ _ (search (and-0, and-1)), o, ne))
+    (u, g, positionOf (phase m t), record { taking = q ∙ ap (Taking g) (sym (ap positionOf q)); within = ltb-true _ _ (search (and-0, and-1)); owned = o; other = ne })
   where
     owned : (k : Held) → another t k ≡ true → (u : ℕ) × (k ≡ Owner u) × (u ≢ t)
     owned (Version v) a = absurd (false≢true a)
@@ -74,7 +75,7 @@ module _ (O : Promised ours) where
             leave = λ _. tt;
             stored = λ _. tt;
             step = λ ne. absurd (ne refl);
-            clash = λ _ ok lt u ne. inr (λ q. absurd (omega (arith, w, ap kindOf (q .2))), refl);
+            clash = λ _ ok lt. alone z m t (elsewhere z m t (phase m t) refl (λ q. omega (arith, w, q))) (λ v ne. refl);
             lasts = λ _ ok. ok;
           }
 
@@ -87,8 +88,8 @@ module _ (O : Promised ours) where
         meets = steps O clashes-end 0 _ (λ z m t e. where-tested clashes-end z m t (comesToAnother z m t) _ (λ c. met z m t e (comes z m t c)));
       }
     where
-      met : (z : Sizes) (m : Memory) (t : ℕ) → call z m (SP t) .number ≡ 0 → (u : ℕ) × Meets z m t u → Leaving clashes-end z m t (move m t (Releasing Failed 0))
-      met z m t e (u, (g, i, q, h, o, ne)) =
+      met : (z : Sizes) (m : Memory) (t : ℕ) → call z m (SP t) .number ≡ 0 → (u : ℕ) × (g : Goal) × (i : ℕ) × Meets z m t u g i → Leaving clashes-end z m t (move m t (Releasing Failed 0))
+      met z m t e (u, g, i, M) =
           let (ok, lt, _) = allowed z m t _ _ (drop 3 (rowsOf z m (SP t) (call z m (SP t) .after))) (ap refusal e) (O call-answers z m (SP t) .0) .0 in
           record {
             answers = λ _. still-answers clashes-end z m t e _ (fallen z m t ok lt);
@@ -96,12 +97,7 @@ module _ (O : Promised ours) where
             narrow = λ _. moves-on z m t (Releasing Failed 0);
             leave = λ _. tt;
             stored = λ _. tt;
-            step = λ _ ok lt. subst⁻¹ (Steps z m t (move m t (Releasing Failed 0))) q (
-              λ k. absurd (omega (arith, h, k)),
-              λ _ v. absurd (not-owner _ u (sym v ∙ o)),
-              λ _ v. absurd (ne (owner-inj u t (sym o ∙ v))),
-              λ _ w v. absurd (not-owner w u (sym v ∙ o)),
-            );
+            step = λ _ ok lt. subst⁻¹ (Steps z m t (move m t (Releasing Failed 0))) (M .taking) (owned-by z m t ok lt g i u (M .within) (M .owned) (M .other));
             clash = λ ne. absurd (ne refl);
-            lasts = λ _ ok. phase-sound z m ok t lt (Releasing Failed 0) refl (omega arith) (omega arith);
+            lasts = λ _ ok. phase-sound z m ok t lt (Releasing Failed 0) refl (omega arith) (omega arith) (ap wakes (M .taking), λ _. refl);
           }

@@ -1,13 +1,14 @@
 -- Each claim is needed: what the claims say of one reply. A machine with one kind of reply twisted has to be looked at there only.
 use Prim.Native.Nat.{ℕ, _<_}
 use mathlib.Core.Path.{_≡_}
-use mathlib.Core.Logic.{_⊎_, _≢_}
+use mathlib.Core.Logic.{_≢_}
 use mathlib.Core.Bool.{true}
 use lib.Dec.{eqb}
 use borrow.Author.Tests.{eqb-true}
-use Rattle.memory.specs.{Sizes, Memory, place, sound, Reply, reply, Call, ST, CM, AB, WT, SP, RD, WR, call, ours, refusal, Given, rowsOf, phase, Valued, Narrow, Leaves, Stores, Steps, Meets, Clash, Claim, Says, Promised, call-answers, opening-answers, look-answers, refusals-keep, refused-openings-keep, calls-are-narrow, requests-leave, entries-stored, steps-leave, clashes-end, sound-lasts, opening-leaves, opening-is-sound}
+use Rattle.memory.specs.{Sizes, Memory, sound, Reply, reply, Call, ST, CM, AB, WT, SP, RD, WR, call, ours, refusal, Given, rowsOf, phase, Valued, Narrow, Leaves, Stores, Steps, Claim, Says, Promised, call-answers, opening-answers, look-answers, refusals-keep, refused-openings-keep, calls-are-narrow, requests-leave, entries-stored, steps-leave, clashes-end, sound-lasts, opening-leaves, opening-is-sound}
 use Rattle.memory.specs.Wrong.{Twist, leaving, straight, twisted, calling, starting, aborting, stepping, reading}
 use Rattle.memory.proofs.Tools.{if-cases}
+use Rattle.memory.proofs.Stepping.{Meeting}
 
 -- The claims at one reply ----------------------------------------------------------------------------------------------------------------
 
@@ -35,7 +36,7 @@ abbrev StepLeaves : Sizes → Memory → ℕ → Memory → Type 0
 StepLeaves z m t m′ = sound z m ≡ true → t < z .tasks → Steps z m t m′ (phase m t)
 
 abbrev StepMeets : Sizes → Memory → ℕ → Memory → Type 0
-StepMeets z m t m′ = sound z m ≡ true → t < z .tasks → (u : ℕ) → u ≢ t → (Meets z m t u × Clash m t u m′) ⊎ ((Meets z m t u → ⊥) × (place m′ u ≡ place m u))
+StepMeets z m t m′ = sound z m ≡ true → t < z .tasks → Meeting z m t m′
 
 -- every claim about calls but one
 pub record But (c : Claim) (z : Sizes) (m : Memory) (k : Call) (r : Reply) : Type 0 where

@@ -2,11 +2,11 @@
 -- set out, with the entries that it had there.
 use Prim.Native.Nat.{ℕ, suc, _%_, _<_}
 use mathlib.Core.Path.{_≡_, refl, sym, ap, _∙_, subst}
-use mathlib.Core.Logic.{_≢_, ⊎-elim}
+use mathlib.Core.Logic.{_≢_}
 use mathlib.Core.Bool.{true}
 use lib.ListN.{drop}
 use native.Mathlib.Omega.{arith}
-use Rattle.memory.specs.{Sizes, Goal, Commit, Outcome, Committed, Failed, Phase, Taking, Writing, Releasing, Place, Held, Version, Owner, Entry, Memory, kindOf, positionOf, steps, place, entry, held, bare, ended, moved, sound, endNumber, SP, call, phase, Given, rowsOf, word, Same, ButAt, Left, final, Steps, Meets, Clash}
+use Rattle.memory.specs.{Sizes, Goal, Commit, Outcome, Committed, Failed, Phase, Taking, Writing, Releasing, Place, Held, Version, Owner, Entry, Memory, kindOf, positionOf, steps, place, entry, held, ended, moved, sound, endNumber, SP, call, phase, Given, rowsOf, word, Same, ButAt, Left, final, Steps, Meets, BothSleep, PlacesChange, Failing, EndsWith}
 use Rattle.memory.proofs.Codes.{not-owner, owner-inj, count-of, phase-of}
 use Rattle.memory.proofs.Stores.{entry-from}
 use Rattle.memory.proofs.Went.{steps-not}
@@ -50,7 +50,7 @@ module _ (z : Sizes) (t : ℕ) (lt : t < z .tasks) (b : Memory) where
     pub words : Same (word b) (word m)
     pub records : (r : ℕ) → R r (held m r)
 
-  pub sets-out : {R : ℕ → Held → Type 0} → sound z b ≡ true → (p : Phase) → phase b t ≡ p → ((r : ℕ) → R r (held b r)) → Since R b (bare n p)
+  pub sets-out : {R : ℕ → Held → Type 0} → sound z b ≡ true → (p : Phase) → phase b t ≡ p → ((r : ℕ) → R r (held b r)) → Since R b (moved (place b t) p)
   sets-out ok p q f =
       record { standing = record { ok = ok; own = ap (moved (place b t)) q; others = λ u ne. refl; entries = refl }; words = λ a. refl; records = f }
 
@@ -61,7 +61,7 @@ module _ (z : Sizes) (t : ℕ) (lt : t < z .tasks) (b : Memory) where
     pub since-but : {i : ℕ} {x : Held} → Stepped m k q′ Same (ButAt i x) → R i x → Since R (next m) q′
     since-but S new = record { standing = S .stands; words = λ a. S .words a ∙ L .words a; records = but-all R (held m) _ (L .records) _ _ (S .records) new }
 
-  module _ (m : Memory) (p : Phase) (S : Stands m (bare n p)) where
+  module _ (m : Memory) (p : Phase) (S : Stands m (moved (place b t) p)) where
     abbrev m′ : Memory
     m′ = next m
 
@@ -78,17 +78,14 @@ module _ (z : Sizes) (t : ℕ) (lt : t < z .tasks) (b : Memory) where
     left = subst (Steps z m t m′) in-p (steps-leave z m t (S .ok) lt)
 
     -- whom it meets, it meets in Taking, as the owner of this entry's record
-    met : (u : ℕ) → Meets z m t u → (kindOf p ≡ 2) × (positionOf p < n) × (held m (rec (positionOf p)) ≡ Owner u)
-    met u (g, i, x, h, o, ne) =
-        let w : p ≡ Taking g i = sym in-p ∙ x in
+    met : (u : ℕ) (g : Goal) (i : ℕ) → Meets z m t u g i → (kindOf p ≡ 2) × (positionOf p < n) × (held m (rec (positionOf p)) ≡ Owner u)
+    met u g i M =
+        let w : p ≡ Taking g i = sym in-p ∙ M .taking in
         let at : positionOf p ≡ i = ap positionOf w in (
           ap kindOf w,
-          omega (arith, at, h, count),
-          ap (λ (j : ℕ). held m (rec j)) at ∙ sym (ap (λ (f : Entry). held m (f .address % z .records)) (same i)) ∙ o,
+          omega (arith, at, M .within, count),
+          ap (λ (j : ℕ). held m (rec j)) at ∙ sym (ap (λ (f : Entry). held m (f .address % z .records)) (same i)) ∙ M .owned,
         )
-
-    beside : (u : ℕ) → u ≢ t → (Meets z m t u → ⊥) → place m′ u ≡ place m u
-    beside u ne nobody = ⊎-elim (λ x. absurd (nobody (x .0))) (λ x. x .1) (clashes-end z m t (S .ok) lt u ne)
 
     -- the number, by the phases before and after
     said : (k : ℕ) (p′ : Phase) → steps p ≡ true → phase m′ t ≡ p′ → Given (ending n p p′) k → call z m (SP t) .number ≡ k
@@ -97,7 +94,8 @@ module _ (z : Sizes) (t : ℕ) (lt : t < z .tasks) (b : Memory) where
         (not-refused z m t (S .ok) lt _ (drop 3 (rowsOf z m (SP t) m′)) k (steps-not (phase m t) (ap steps in-p ∙ moves)) (rw (count, in-p, to) g))
 
     stepped : {k : ℕ} {q : Place} {Words : (ℕ → ℕ) → (ℕ → ℕ) → Type 0} {Records : (ℕ → Held) → (ℕ → Held) → Type 0}
-        → Left m t m′ q Words Records → steps p ≡ true → Given (ending n p (q .phase)) k → ((u : ℕ) → u ≢ t → Meets z m t u → ⊥)
+        → Left m t m′ q Words Records → steps p ≡ true → Given (ending n p (q .phase)) k
+        → ((u : ℕ) (g : Goal) (i : ℕ) → Meets z m t u g i → ⊥)
         → Stepped m k q Words Records
     stepped {k = k} {q = q} L moves g nobody =
         record {
@@ -105,7 +103,7 @@ module _ (z : Sizes) (t : ℕ) (lt : t < z .tasks) (b : Memory) where
           stands = record {
             ok = call-sound z m (S .ok) (SP t);
             own = L .own;
-            others = λ u ne. beside u ne (nobody u ne) ∙ S .others u ne;
+            others = λ u ne. clashes-end z m t (S .ok) lt .1 nobody u ne ∙ S .others u ne;
             entries = L .entries ∙ S .entries;
           };
           words = L .words;
@@ -114,62 +112,65 @@ module _ (z : Sizes) (t : ℕ) (lt : t < z .tasks) (b : Memory) where
 
   -- Taking -----------------------------------------------------------------------------------------------------------------------
 
-  module _ (m : Memory) (g : Goal) (i : ℕ) (S : Stands m (bare n (Taking g i))) (h : i < n) where
-    pub takes : held m (rec i) ≡ Version (e i .old .version) → Stepped m 0 (bare n (Taking g (suc i))) Same (ButAt (rec i) (Owner t))
+  module _ (m : Memory) (g : Goal) (i : ℕ) (S : Stands m (moved (place b t) (Taking g i))) (h : i < n) where
+    pub takes : held m (rec i) ≡ Version (e i .old .version) → Stepped m 0 (moved (place b t) (Taking g (suc i))) Same (ButAt (rec i) (Owner t))
     takes q =
-        stepped m _ S (rw (count m _ S, same m _ S i) at (left m _ S .1) h q) refl (moved-given n _ _ (λ o x. omega (arith, ap kindOf x)))
-        (λ u ne x. not-owner (e i .old .version) u (sym q ∙ met m _ S u x .2))
+        stepped m _ S (rw (S .own, same m _ S i) at (left m _ S .1) h q) refl (moved-given n _ _ (λ o x. omega (arith, ap kindOf x)))
+        (λ u g j x. not-owner (e i .old .version) u (sym q ∙ met m _ S u g j x .2))
 
-    pub has : held m (rec i) ≡ Owner t → Stepped m 0 (bare n (Taking g (suc i))) Same Same
+    pub has : held m (rec i) ≡ Owner t → Stepped m 0 (moved (place b t) (Taking g (suc i))) Same Same
     has q =
-        stepped m _ S (rw (count m _ S, same m _ S i) at (left m _ S .2) h q) refl (moved-given n _ _ (λ o x. omega (arith, ap kindOf x)))
-        (λ u ne x. ne (owner-inj u t (sym (met m _ S u x .2) ∙ q)))
+        stepped m _ S (rw (S .own, same m _ S i) at (left m _ S .2) h q) refl (moved-given n _ _ (λ o x. omega (arith, ap kindOf x)))
+        (λ u g j x. x .other (owner-inj u t (sym (met m _ S u g j x .2) ∙ q)))
 
-    -- it meets the owner, and nobody else
-    pub meets : (u : ℕ) → u ≢ t → held m (rec i) ≡ Owner u
-        → (call z m (SP t) .number ≡ 0) × Clash m t u (next m) × ((w : ℕ) → w ≢ t → w ≢ u → place (next m) w ≡ place m w)
-    meets u ne q = (
-      said m _ S 0 (Releasing Failed 0) refl (phase-of (clashed .comer)) (moved-given n _ _ (λ o x. omega (arith, ap kindOf x))),
-      clashed,
-      λ w nt nu. beside m _ S w nt (λ x. nu (owner-inj w u (sym (met m _ S w x .2) ∙ q))),
-    )
+    -- it clashes with the owner
+    pub meets : (u : ℕ) → u ≢ t → held m (rec i) ≡ Owner u → (BothSleep m u g → ⊥)
+        → (call z m (SP t) .number ≡ 0) × PlacesChange m t (next m) Failing (EndsWith m u)
+    meets u ne q apart =
+        (said m _ S 0 (Releasing Failed 0) refl (phase-of (clashed .comer)) (moved-given n _ _ (λ o x. omega (arith, ap kindOf x))), clashed)
       where
-        meeting : Meets z m t u
-        meeting = (g, i, in-p m _ S, omega (arith, h, count m _ S), ap (λ (f : Entry). held m (f .address % z .records)) (same m _ S i) ∙ q, ne)
+        meeting : Meets z m t u g i
+        meeting =
+            record {
+              taking = in-p m _ S;
+              within = omega (arith, h, count m _ S);
+              owned = ap (λ (f : Entry). held m (f .address % z .records)) (same m _ S i) ∙ q;
+              other = ne;
+            }
 
-        clashed : Clash m t u (next m)
-        clashed = ⊎-elim (λ x. x .1) (λ x. absurd (x .0 meeting)) (clashes-end z m t (S .ok) lt u ne)
+        clashed : PlacesChange m t (next m) Failing (EndsWith m u)
+        clashed = clashes-end z m t (S .ok) lt .0 u g i meeting .2 apart
 
-  pub decides : (m : Memory) → Stands m (bare n (Taking Commit n)) → Stepped m 0 (bare n (Writing 0)) Same Same
+  pub decides : (m : Memory) → Stands m (moved (place b t) (Taking Commit n)) → Stepped m 0 (moved (place b t) (Writing 0)) Same Same
   decides m S =
-      stepped m _ S (rw (count m _ S) at (left m _ S .0) refl) refl (moved-given n _ _ (λ o x. omega (arith, ap kindOf x)))
-      (λ u ne x. omega (arith, met m _ S u x .1))
+      stepped m _ S (rw (S .own) at (left m _ S .0) refl) refl (moved-given n _ _ (λ o x. omega (arith, ap kindOf x)))
+      (λ u g j x. omega (arith, met m _ S u g j x .1))
 
   -- Writing ----------------------------------------------------------------------------------------------------------------------
 
-  pub writes : (m : Memory) (i : ℕ) → Stands m (bare n (Writing i)) → i < n
-      → Stepped m 0 (bare n (Writing (suc i))) (ButAt (e i .address) (e i .new .value)) Same
+  pub writes : (m : Memory) (i : ℕ) → Stands m (moved (place b t) (Writing i)) → i < n
+      → Stepped m 0 (moved (place b t) (Writing (suc i))) (ButAt (e i .address) (e i .new .value)) Same
   writes m i S h =
-      stepped m _ S (rw (count m _ S, same m _ S i) at (left m _ S .1) h) refl (moved-given n _ _ (λ o x. omega (arith, ap kindOf x)))
-      (λ u ne x. omega (arith, met m _ S u x .0))
+      stepped m _ S (rw (S .own, same m _ S i) at (left m _ S .1) h) refl (moved-given n _ _ (λ o x. omega (arith, ap kindOf x)))
+      (λ u g j x. omega (arith, met m _ S u g j x .0))
 
-  pub wrote-all : (m : Memory) → Stands m (bare n (Writing n)) → Stepped m 0 (bare n (Releasing Committed 0)) Same Same
+  pub wrote-all : (m : Memory) → Stands m (moved (place b t) (Writing n)) → Stepped m 0 (moved (place b t) (Releasing Committed 0)) Same Same
   wrote-all m S =
-      stepped m _ S (rw (count m _ S) at (left m _ S .0) refl) refl (moved-given n _ _ (λ o x. omega (arith, ap kindOf x)))
-      (λ u ne x. omega (arith, met m _ S u x .0))
+      stepped m _ S (rw (S .own) at (left m _ S .0) refl) refl (moved-given n _ _ (λ o x. omega (arith, ap kindOf x)))
+      (λ u g j x. omega (arith, met m _ S u g j x .0))
 
   -- Releasing --------------------------------------------------------------------------------------------------------------------
 
-  module _ (m : Memory) (o : Outcome) (i : ℕ) (S : Stands m (bare n (Releasing o i))) (h : i < n) where
-    pub frees : held m (rec i) ≡ Owner t → Stepped m 0 (bare n (Releasing o (suc i))) Same (ButAt (rec i) (Version (final o (e i))))
+  module _ (m : Memory) (o : Outcome) (i : ℕ) (S : Stands m (moved (place b t) (Releasing o i))) (h : i < n) where
+    pub frees : held m (rec i) ≡ Owner t → Stepped m 0 (moved (place b t) (Releasing o (suc i))) Same (ButAt (rec i) (Version (final o (e i))))
     frees q =
-        stepped m _ S (rw (count m _ S, same m _ S i) at (left m _ S .1) h q) refl (moved-given n _ _ (λ o x. omega (arith, h, ap positionOf x)))
-        (λ u ne x. omega (arith, met m _ S u x .0))
+        stepped m _ S (rw (S .own, same m _ S i) at (left m _ S .1) h q) refl (moved-given n _ _ (λ o x. omega (arith, h, ap positionOf x)))
+        (λ u g j x. omega (arith, met m _ S u g j x .0))
 
-    pub passes : held m (rec i) ≢ Owner t → Stepped m 0 (bare n (Releasing o (suc i))) Same Same
+    pub passes : held m (rec i) ≢ Owner t → Stepped m 0 (moved (place b t) (Releasing o (suc i))) Same Same
     passes q =
-        stepped m _ S (rw (count m _ S, same m _ S i) at (left m _ S .2) h q) refl (moved-given n _ _ (λ o x. omega (arith, h, ap positionOf x)))
-        (λ u ne x. omega (arith, met m _ S u x .0))
+        stepped m _ S (rw (S .own, same m _ S i) at (left m _ S .2) h q) refl (moved-given n _ _ (λ o x. omega (arith, h, ap positionOf x)))
+        (λ u g j x. omega (arith, met m _ S u g j x .0))
 
-  pub ends : (m : Memory) (o : Outcome) → Stands m (bare n (Releasing o n)) → Stepped m (endNumber o) ended Same Same
-  ends m o S = stepped m _ S (rw (count m _ S) at (left m _ S .0) refl) refl (ended-given n o) (λ u ne x. omega (arith, met m _ S u x .0))
+  pub ends : (m : Memory) (o : Outcome) → Stands m (moved (place b t) (Releasing o n)) → Stepped m (endNumber o) ended Same Same
+  ends m o S = stepped m _ S (rw (S .own) at (left m _ S .0) refl) refl (ended-given n o) (λ u g j x. omega (arith, met m _ S u g j x .0))

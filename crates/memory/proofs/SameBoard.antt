@@ -1,4 +1,4 @@
--- After a try that failed and the woken one's end every address has the logical value and version that it had, if the board was
+-- After a try that failed and the ends of the woken every address has the logical value and version that it had, if the board was
 -- plain. A reached board is plain where it is calm.
 use Prim.Native.Nat.{ℕ, _%_, _<_}
 use mathlib.Core.Path.{_≡_, refl, sym, ap, _∙_}
@@ -8,10 +8,10 @@ use mathlib.Core.Bool.{true, false}
 use lib.ListN.{getD}
 use native.Mathlib.Omega.{arith}
 use native.Mathlib.Nat.{mod-lt}
-use Rattle.memory.specs.{Sizes, Phase, Idle, Asleep, Writing, Place, Held, Version, Owner, Seen, Entry, Memory, kindOf, steps, committed, place, entries, held, ownedAt, logical, logicalAt, shown, sound, _∈_, phase, KeepsOthers, Use, Calm, Wakes, Rises, Plain, CalmIsPlain, Scene, ours}
+use Rattle.memory.specs.{Sizes, Phase, Idle, Asleep, Writing, Place, Held, Version, Owner, Seen, Entry, Memory, kindOf, steps, committed, place, entries, held, ownedAt, logical, logicalAt, shown, sound, _∈_, Led, phase, KeepsOthers, Use, Calm, Plain, CalmIsPlain, Scene}
 use Rattle.memory.proofs.Codes.{count-of}
 use Rattle.memory.proofs.Find.{find?}
-use Rattle.memory.proofs.Stores.{held-from, entry-from}
+use Rattle.memory.proofs.Stores.{held-from}
 use Rattle.memory.proofs.Facts.{some-record, owner-task, owns-none, entries-same}
 use Rattle.memory.proofs.Fresh.{agreed}
 use Rattle.memory.proofs.Meanings.{logical-means}
@@ -20,8 +20,8 @@ use Rattle.memory.proofs.Look.{clean}
 use Rattle.memory.proofs.View.{view}
 use Rattle.memory.proofs.Good.{logical-right}
 use Rattle.memory.proofs.Serial.{Fine, always}
-use Rattle.memory.proofs.Tables.{is-owner?, keeps-place}
-use Rattle.memory.proofs.WholeTurns.{Woke}
+use Rattle.memory.proofs.Tables.{keeps-place}
+use Rattle.memory.proofs.WholeTurns.{Woke, led-owner?}
 
 -- a reached board on which nobody writes has its logical values in its words
 fine-plain : (s : Scene) → Fine s → Calm (s .sizes) (s .memory) → Plain (s .sizes) (s .memory)
@@ -72,26 +72,14 @@ logical-kept z m m′ t ok ok′ s K a =
     let p = keeps-place z m m′ t K w ne in
     (p, entries-same z m m′ ok ok′ w h (count-of p) (λ j d. K .runs w j ne d)))
 
--- A try that failed, and the woken one's end -------------------------------------------------------------------------------------------------
+-- A try that failed, and the ends of the woken ------------------------------------------------------------------------------------------------
 
 module _ (z : Sizes) (m : Memory) (t : ℕ) (ok : sound z m ≡ true) (idle : phase m t ≡ Idle) (us : List Use) (woke : Woke z m t us) where
   abbrev u : ℕ
   u = woke .u
 
-  abbrev m₁ : Memory
-  m₁ = woke .m₁
-
   abbrev m₂ : Memory
   m₂ = woke .m₂
-
-  abbrev W : Wakes ours z m t us u m₁
-  W = woke .wakes
-
-  abbrev R : Rises ours z m₁ u m₂
-  R = woke .rises
-
-  words : m₂ .words ≡ m .words
-  words = R .words ∙ W .words
 
   module _ (a : ℕ) where
     abbrev r : ℕ
@@ -100,19 +88,18 @@ module _ (z : Sizes) (m : Memory) (t : ℕ) (ok : sound z m ≡ true) (idle : ph
     low : r < z .records
     low = mod-lt a (some-record z m ok)
 
-    by-others : held m r ≢ Owner u → logical z m₂ a ≡ logical z m a
+    by-others : ((w : ℕ) → Led m u w → held m r ≢ Owner w) → logical z m₂ a ≡ logical z m a
     by-others n =
-        logical-same z m m₂ a words (woke .kept r low n) (λ w q.
+        logical-same z m m₂ a (woke .words) (woke .kept r low n) (λ w q.
         let not-t : w ≢ t = λ e. owns-none z m ok w (ap (λ (x : ℕ). steps (phase m x)) e ∙ ap steps idle) r low q in
-        let p : place m₂ w ≡ place m w = woke .others w (λ e. n (q ∙ ap Owner e)) in (
+        let p : place m₂ w ≡ place m w = woke .others w (λ l. n w l q) in (
           p,
-          entries-same z m m₂ ok (woke .ok) w (owner-task z m ok r w low q) (count-of p)
-              (λ j d. entry-from m₁ m₂ z (R .entries-same) w j ∙ W .runs w j not-t d),
+          entries-same z m m₂ ok (woke .ok) w (owner-task z m ok r w low q) (count-of p) (λ j d. woke .runs w j not-t d),
         ))
 
-    module _ (owned : held m r ≡ Owner u) where
-      x : (f : Entry) × f ∈ entries z m u × (f .address % z .records ≡ r) × (held m₂ r ≡ Version (f .old .version))
-      x = woke .freed r low owned
+    module _ (w : ℕ) (led : Led m u w) (owned : held m r ≡ Owner w) where
+      x : (f : Entry) × f ∈ entries z m w × (f .address % z .records ≡ r) × (held m₂ r ≡ Version (f .old .version))
+      x = woke .freed r low w led owned
 
       abbrev f : Entry
       f = x .0
@@ -120,16 +107,16 @@ module _ (z : Sizes) (m : Memory) (t : ℕ) (ok : sound z m ≡ true) (idle : ph
       then-is : logical z m₂ a ≡ record { value = getD (m .words) a 0; version = f .old .version }
       then-is =
           logical-means z m₂ (woke .ok) a .free (f .old .version) (x .3)
-          ∙ ap (λ (l : List ℕ). record { value = getD l a 0; version = f .old .version }) words
+          ∙ ap (λ (l : List ℕ). record { value = getD l a 0; version = f .old .version }) (woke .words)
 
       was-version : logical z m a .version ≡ f .old .version
       was-version =
           ⊎-elim (λ k.
-          ap (λ (s : Seen). s .version) (logical-means z m ok a .known u owned (k .0) (k .1) (k .2) ∙ ap (λ (p : Phase). shown p (k .0)) (W .slept))
-          ∙ agreed z m ok u (owner-task z m ok r u low owned) (k .0) f (k .1) (x .1) (ap (λ (b : ℕ). b % z .records) (k .2) ∙ sym (x .2)) .0)
+          ap (λ (s : Seen). s .version) (logical-means z m ok a .known w owned (k .0) (k .1) (k .2) ∙ ap (λ (p : Phase). shown p (k .0)) (woke .slept w led))
+          ∙ agreed z m ok w (owner-task z m ok r w low owned) (k .0) f (k .1) (x .1) (ap (λ (b : ℕ). b % z .records) (k .2) ∙ sym (x .2)) .0)
           (λ new.
-          ap (λ (s : Seen). s .version) (logical-means z m ok a .beside u owned new f (x .1) (x .2)) ∙ ap (λ (p : Phase). shown p f .version) (W .slept))
-          (find? (λ e. e .address) a (entries z m u))
+          ap (λ (s : Seen). s .version) (logical-means z m ok a .beside w owned new f (x .1) (x .2)) ∙ ap (λ (p : Phase). shown p f .version) (woke .slept w led))
+          (find? (λ e. e .address) a (entries z m w))
 
       by-woken : logical z m a .value ≡ getD (m .words) a 0 → logical z m₂ a ≡ logical z m a
       by-woken p =
@@ -137,7 +124,7 @@ module _ (z : Sizes) (m : Memory) (t : ℕ) (ok : sound z m ≡ true) (idle : ph
           ∙ ap (λ (v : ℕ). record { value = v; version = logical z m a .version }) (sym p)
 
     pub same-board : logical z m a .value ≡ getD (m .words) a 0 → logical z m₂ a ≡ logical z m a
-    same-board p = ⊎-elim (λ q. by-woken q p) by-others (is-owner? (held m r) u)
+    same-board p = ⊎-elim (λ x. by-woken (x .0) (x .1) (x .2) p) by-others (led-owner? z m ok u (held m r))
 
   pub still-plain : Plain z m → Plain z m₂
-  still-plain p a = ap (λ (s : Seen). s .value) (same-board a (p a)) ∙ p a ∙ ap (λ (l : List ℕ). getD l a 0) (sym words)
+  still-plain p a = ap (λ (s : Seen). s .value) (same-board a (p a)) ∙ p a ∙ ap (λ (l : List ℕ). getD l a 0) (sym (woke .words))

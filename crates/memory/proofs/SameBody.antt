@@ -1,5 +1,5 @@
 -- The same body is answered the same after a try that failed: so it is tried until it commits.
-use Prim.Native.Nat.{ℕ, zero, suc, _<_}
+use Prim.Native.Nat.{ℕ, zero, suc, _<_, _≤_}
 use mathlib.Core.Path.{_≡_, refl, sym, ap, _∙_}
 use mathlib.Core.Logic.{inl, inr, ⊎-elim}
 use mathlib.Core.List.{List, [], _∷_, map}
@@ -31,11 +31,11 @@ module _ (z : Sizes) (t : ℕ) (lt : t < z .tasks) (us : List Use) where
     zero-again : AllZero ours z (w .m₂) (body t us)
     zero-again = numbers-said z (body t us) (w .m₂) ∙ ap (map (λ (p : ℕ × ℕ). p .0)) (again .answers) ∙ sym (numbers-said z (body t us) m) ∙ e
 
-    less : inTheWay z m area ≡ suc (inTheWay z (w .m₂) area)
+    less : inTheWay z (w .m₂) area < inTheWay z m area
     less = w .fewer area (λ x k. map-in addressOf k)
 
   repeats : (k : ℕ) (m : Memory) → sound z m ≡ true → Calm z m → Plain z m → phase m t ≡ Idle → AllZero ours z m (body t us)
-      → inTheWay z m area ≡ k → Repeated ours z t us k m
+      → inTheWay z m area ≤ k → Repeated ours z t us k m
   repeats zero m ok calm plain idle e few =
       ⊎-elim (λ x. (x .0, x .1)) (λ (w : Woke z m t us). absurd (omega (arith, few, less m ok plain idle e w))) (ends-or-wakes z m t lt ok calm idle us e)
   repeats (suc k) m ok calm plain idle e few =
@@ -51,7 +51,7 @@ module _ (z : Sizes) (t : ℕ) (lt : t < z .tasks) (us : List Use) where
       )) (ends-or-wakes z m t lt ok calm idle us e)
 
 pub the-same-body-comes-through : TheSameBodyComesThrough ours
-the-same-body-comes-through z m t lt ok calm plain idle us e = repeats z t lt us (inTheWay z m (map addressOf us)) m ok calm plain idle e refl
+the-same-body-comes-through z m t lt ok calm plain idle us e = repeats z t lt us (inTheWay z m (map addressOf us)) m ok calm plain idle e (omega arith)
 
 pub reached-turns-come-through : ReachedTurnsComeThrough
 reached-turns-come-through = λ z v m o es t lt calm idle us e.

@@ -7,13 +7,14 @@ use mathlib.Core.Bool.{false≢true}
 use lib.ListN.{length, getD, replicate}
 use native.Mathlib.Omega.{arith}
 use borrow.Author.Tests.{eqb-false}
-use Rattle.memory.specs.{Sizes, Idle, Asleep, Version, Owner, Seen, Entry, Memory, memory, topVersion, firstOwner, numberOf, held, place, limit, entries, setHeld, opened, Call, ST, CM, WT, SP, RD, WR, ours, leaves, small, boardAfter, sleeping, writes7, commits, late, upd, _∈_, request}
+use Rattle.memory.specs.{Sizes, Idle, Asleep, Version, Owner, Seen, Entry, Memory, memory, topVersion, firstOwner, kindOf, numberOf, held, place, limit, entries, setHeld, opened, Call, ST, CM, WT, SP, RD, WR, ours, leaves, small, boardAfter, sleeping, writes7, commits, late, upd, _∈_, request}
 use Rattle.memory.specs.Slips.{readKeepsSecond, writeKeepsSecond, thousandInWrite, openingOneFirst, thousandInOpening, thirtyOneTasks, asleepAnswers0, committerUntouched, waiterUntouched, sleeperUntouched, comerUntouched, comerSteals, endsCommitted, wakesAndTakes, alwaysRefuses, alwaysFails}
 use Rattle.memory.specs.SlipsRefuted.{SlipsAreRefuted}
 use Rattle.memory.proofs.Machine.{machine}
 use Rattle.memory.proofs.Example.{lent}
-use Rattle.memory.proofs.Breaks.{differ, phaseKind, other-read, other-write, other-step, other-opening, met, after, nothing}
+use Rattle.memory.proofs.Breaks.{differ, phaseKind, other-read, other-write, other-step, other-opening, met, owner-ended, after, nothing}
 use Rattle.memory.proofs.SlipsEntries.{rows, six-for-known-read, six-for-known-write, nine-before-six-read, nine-before-six-write, sixty-three-read, sixty-three-write, six-before-five-read, six-before-five-write}
+use Rattle.memory.proofs.SlipsLists.{wakes-one, takers-left, lists-kept, lists-kept-unsound, joins-any-version, differing-wakes, joins-taker, joins-last, idle-stays-listed, passes-way-back}
 use Rattle.memory.proofs.SlipsWhole.{sleeper-untouched-a-try, sleeper-untouched-a-turn}
 
 -- Boards --------------------------------------------------------------------------------------------------------------------------
@@ -35,7 +36,7 @@ four : Sizes
 four = record { words = 4; records = 4; tasks = 1 }
 
 three : ℕ → List ℕ → Memory
-three i records = memory (replicate 4 0) records ((3 ∷ 2 ∷ i ∷ []) ∷ []) (rows (limit four) 0)
+three i records = memory (replicate 4 0) records ((3 ∷ 2 ∷ i ∷ 0 ∷ []) ∷ []) (rows (limit four) 0)
 
 first : Memory
 first = three 0 (1 ∷ 1 ∷ 1 ∷ 1 ∷ [])
@@ -99,20 +100,30 @@ slips-are-refuted =
       invents-versions = λ h.
           differ numberOf (h small (leaves ours small (coming (writes7 ++ commits 1)) (SP 1 ∷ [])) 0 refl (omega arith) .1 (omega arith) refl .records .0) refl;
       commits-at-once = λ h. eqb-false 7 0 refl (h small (after (writes7 ++ commits 0)) 0 refl (omega arith) .1 (omega arith) refl .words 1);
-      committer-untouched = λ h. differ phaseKind (met committerUntouched (coming (writes7 ++ commits 1)) refl refl refl refl h .owner) refl;
-      waiter-untouched = λ h. differ phaseKind (met waiterUntouched (coming (waits 1)) refl refl refl refl h .owner) refl;
-      sleeper-untouched = λ h. differ phaseKind (met sleeperUntouched (coming (waits 2)) refl refl refl refl h .owner) refl;
+      committer-untouched = λ h. differ kindOf (owner-ended (met committerUntouched (coming (writes7 ++ commits 1)) refl refl refl refl h)) refl;
+      waiter-untouched = λ h. differ kindOf (owner-ended (met waiterUntouched (coming (waits 1)) refl refl refl refl h)) refl;
+      sleeper-untouched = λ h. differ kindOf (owner-ended (met sleeperUntouched (coming (waits 2)) refl refl refl refl h)) refl;
       sleeper-untouched-a-try = sleeper-untouched-a-try;
       sleeper-untouched-a-turn = sleeper-untouched-a-turn;
       comer-untouched = λ h. differ phaseKind (met comerUntouched (coming (writes7 ++ commits 1)) refl refl refl refl h .comer) refl;
       comer-steals = λ h. differ (λ (l : List ℕ). getD l 1 0) (met comerSteals (coming (writes7 ++ commits 1)) refl refl refl refl h .records) refl;
-      ends-committed = λ h. differ phaseKind (met endsCommitted (coming (writes7 ++ commits 2)) refl refl refl refl h .owner) refl;
+      ends-committed = λ h. differ kindOf (owner-ended (met endsCommitted (coming (writes7 ++ commits 2)) refl refl refl refl h)) refl;
       wakes-and-takes = λ h. differ phaseKind (met wakesAndTakes (coming (waits 2)) refl refl refl refl h .comer) refl;
+      wakes-one = wakes-one;
+      takers-left = takers-left;
+      lists-kept = lists-kept;
+      lists-kept-unsound = lists-kept-unsound;
+      joins-any-version = joins-any-version;
+      differing-wakes = differing-wakes;
+      joins-taker = joins-taker;
+      joins-last = joins-last;
+      idle-stays-listed = idle-stays-listed;
       always-refuses = other-read alwaysRefuses small (after (ST 0 ∷ [])) 0 1 refl;
       always-fails = other-step alwaysFails small (after (writes7 ++ commits 5)) 0 Idle refl refl refl;
       changes-nothing = λ h. differ phaseKind (h small (after []) (ST 0) refl .0) refl;
       opening-changes-nothing = λ h. differ (λ (l : List ℕ). getD l 0 0) (h small 1 lent refl .words) refl;
       passes-any-owner = λ h. let k = h small strayOwner .0 refl .owners 0 9 (omega arith) refl .task in absurd (omega (arith, k));
+      passes-way-back = passes-way-back;
       sees-bare-word = λ h.
           eqb-false 0 7 refl (ap (λ (s : Seen). s .value) (h small (after (writes7 ++ commits 2)) refl 1 .known 0 refl _ (List·Memᴰ·head refl) refl));
       only-writers = λ h. differ length (h small 1 lent refl (map request (ST 0 ∷ CM 0 ∷ [])) .decided 0 (omega arith) refl) refl;

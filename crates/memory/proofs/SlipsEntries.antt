@@ -19,7 +19,7 @@ rows zero i = []
 rows (suc k) i = (i ∷ 0 ∷ 0 ∷ 1 ∷ 1 ∷ []) ∷ rows k (suc i)
 
 many : ℕ → ℕ → Memory
-many n v = memory (replicate (wide .words) 0) (v ∷ []) ((n ∷ 1 ∷ 0 ∷ []) ∷ []) (rows (limit wide) 0)
+many n v = memory (replicate (wide .words) 0) (v ∷ []) ((n ∷ 1 ∷ 0 ∷ 0 ∷ []) ∷ []) (rows (limit wide) 0)
 
 -- Soundness of so many entries is slow to compute: here it is done once, and below `sound` stays shut.
 full : sound wide (many (limit wide) 2) ≡ true

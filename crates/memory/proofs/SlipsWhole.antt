@@ -5,10 +5,10 @@ use mathlib.Core.Logic.{_⊎_, inl, inr}
 use mathlib.Core.List.{List, [], _∷_, List·Memᴰ·head, List·Memᴰ·eq-of-singleton}
 use lib.ListN.{getD}
 use native.Mathlib.Omega.{arith}
-use Rattle.memory.specs.{Memory, kindOf, place, leaves, _∈_, small, boardAfter, sleeping, thenAnswers, Use, Calm, try, addressOf, Through, Wakes, Rises, ComesThrough, ATryEnds, WholeTurnsComeThrough}
+use Rattle.memory.specs.{Memory, kindOf, phase, itself, leaves, _∈_, small, boardAfter, sleeping, thenAnswers, Use, Calm, try, addressOf, Through, Wakes, AllRise, ComesThrough, ATryEnds, WholeTurnsComeThrough}
 use Rattle.memory.specs.Slips.{sleeperUntouched}
 use Rattle.memory.proofs.Machine.{machine}
-use Rattle.memory.proofs.Breaks.{differ, phaseKind}
+use Rattle.memory.proofs.Breaks.{differ}
 use Rattle.memory.proofs.WholeExample.{board, us}
 
 calm : Calm small board
@@ -42,7 +42,7 @@ not-woken (suc zero) m′ W =
     let z : W .i ≡ 0 = omega (arith, W .within) in
     let a : m′ ≡ leaves sleeperUntouched small board (try 0 us 3) =
     W .is-after ∙ ap (λ (i : ℕ). leaves sleeperUntouched small board (try 0 us (suc i + 2))) z in
-    differ phaseKind (sym (ap (λ (m : Memory). place m 1) a) ∙ W .woken) refl
+    differ kindOf (sym (ap (λ (m : Memory). phase m 1) a) ∙ W .woken 1 itself .0) refl
 not-woken (suc (suc u)) m′ W = differ kindOf (W .slept) refl
 
 pub sleeper-untouched-a-try : ATryEnds sleeperUntouched → ⊥
@@ -61,7 +61,7 @@ sleeper-untouched-a-turn claim = go (claim small board 0 (omega arith) refl calm
     inside x k = List·Memᴰ·head (ap addressOf (List·Memᴰ·eq-of-singleton k))
 
     go : ((m′ : Memory) × Through sleeperUntouched small board 0 us m′ × Calm small m′)
-        ⊎ ((u : ℕ) × (m₁ m₂ : Memory) × Wakes sleeperUntouched small board 0 us u m₁ × Rises sleeperUntouched small m₁ u m₂ × Calm small m₂
+        ⊎ ((u : ℕ) × (m₁ m₂ : Memory) × Wakes sleeperUntouched small board 0 us u m₁ × AllRise sleeperUntouched small (small .tasks) m₁ m₂ × Calm small m₂
         × ComesThrough sleeperUntouched small 0 (3 ∷ []) 0 m₂) → ⊥
     go (inl x) = not-through (x .0) (x .1)
     go (inr x) = not-woken (x .0) (x .1) (x .3)

@@ -4,7 +4,7 @@ use mathlib.Core.Path.{_≡_, refl, sym, ap, _∙_, subst}
 use mathlib.Core.Logic.{_⊎_, inl, inr, ⊎-elim}
 use mathlib.Core.Bool.{true}
 use native.Mathlib.Omega.{arith}
-use Rattle.memory.specs.{Sizes, Commit, Taking, Held, Version, Owner, Memory, place, entry, held, bare, sound, SP, call, phase}
+use Rattle.memory.specs.{Sizes, Commit, Taking, Held, Version, Owner, Memory, place, entry, held, moved, sound, SP, call, phase}
 use Rattle.memory.proofs.Facts.{agree}
 use Rattle.memory.proofs.Runs.{Reaches, goes-on}
 use Rattle.memory.proofs.OneStep.{Since, sets-out, since-same, since-but, takes, has}
@@ -28,7 +28,7 @@ module _ (z : Sizes) (t : ℕ) (lt : t < z .tasks) (c : Memory) where
   Taken r h = (h ≡ held c r) ⊎ ((h ≡ Owner t) × ((k : ℕ) → k < n → rec k ≡ r → held c r ≡ old k))
 
   abbrev pub Took : Memory → ℕ → Type 0
-  Took m j = Since z t lt c Taken m (bare n (Taking Commit j))
+  Took m j = Since z t lt c Taken m (moved (place c t) (Taking Commit j))
 
   module _ (ok : sound z c ≡ true) (i : ℕ) (hi : i ≤ n) (free : Free i) where
     takes-one : (m : Memory) (j : ℕ) → Took m j → j < i → (call z m (SP t) .number ≡ 0) × Took (call z m (SP t) .after) (suc j)

@@ -1,23 +1,40 @@
 -- A try: Start, Reads and Writes, Commit, and steps. With no owner about it commits; on a calm table it commits, or wakes the first
--- sleeper that it meets.
+-- sleeper that it meets, with all to whom its list leads.
 use Prim.Native.Nat.{ℕ, zero, suc, _+_, _*_, _%_, _<_, _≤_}
-use mathlib.Core.Path.{_≡_, refl, sym, ap, _∙_, subst⁻¹}
+use mathlib.Core.Path.{_≡_, refl, sym, ap, _∙_, subst, subst⁻¹}
 use mathlib.Core.Logic.{_⊎_, inl, inr, _≢_, ⊎-elim}
 use mathlib.Core.List.{List, _∷_, map}
 use mathlib.Core.Bool.{true}
 use lib.ListN.{replicate}
 use native.Mathlib.Omega.{arith}
 use native.Mathlib.Nat.{mod-lt}
-use Rattle.memory.specs.{Sizes, Phase, Idle, Asleep, Place, Held, Version, Owner, Memory, isIdle, steps, place, entry, held, bare, moved, sound, CM, SP, call, leaves, numbers, _∈_, phase, thenAnswers, FromTheStartItCommits, Use, struck, Calm, body, try, addressOf, entered, AllZero, LastSays, Through, Wakes, ATryEnds, ours}
-use Rattle.memory.proofs.Tools.{same?, map-in}
+use Rattle.memory.specs.{Sizes, Idle, Asleep, Place, Held, Version, Owner, Memory, kindOf, steps, place, entry, held, sound, mayJoin, has, Joined, Led, itself, EndsWith, CM, SP, call, leaves, numbers, _∈_, phase, thenAnswers, FromTheStartItCommits, Use, struck, Calm, body, try, addressOf, entered, AllZero, LastSays, Through, Wakes, ATryEnds, ours}
+use Rattle.memory.proofs.Tools.{same?, everywhere, map-in}
+use Rattle.memory.proofs.Leads.{led-cases}
 use Rattle.memory.proofs.Stores.{held-from, entry-from}
-use Rattle.memory.proofs.Facts.{some-record, idle-0, owner-task, owns-none}
+use Rattle.memory.proofs.Facts.{some-record, owner-task, owns-none, joined-in, on-none, idle-ended}
 use Rattle.memory.proofs.Tables.{keeps-place}
 use Rattle.memory.proofs.Runs.{leaves-append, says-then, Reaches}
 use Rattle.memory.proofs.Takes.{Free}
 use Rattle.memory.proofs.Alone.{Over, commits}
-use Rattle.memory.proofs.Falls.{Fell, falls}
+use Rattle.memory.proofs.Falls.{ends-from, Fell, falls}
 use Rattle.memory.proofs.Begun.{Asked, asked}
+
+-- Who is on lists --------------------------------------------------------------------------------------------------------------------------
+
+module _ (z : Sizes) (m : Memory) (ok : sound z m ≡ true) where
+  -- on a calm table all to whom a sleeper's list leads sleep
+  pub led-sleeps : Calm z m → (u : ℕ) → phase m u ≡ Asleep → {w : ℕ} → Led m u w → phase m w ≡ Asleep
+  led-sleeps calm u slept {w} l = ⊎-elim (λ e. ap (phase m) e ∙ slept) (λ k. sleeps (k .0) (k .2)) (led-cases m l)
+    where
+      sleeps : (v : ℕ) → Joined m w v → phase m w ≡ Asleep
+      sleeps v j = ⊎-elim (λ i. absurd (on-none z m ok w (ap mayJoin i) v j)) (λ s. s) (calm w (joined-in z m ok w v j .0))
+
+  -- so none of them is a task that is Idle
+  pub led-not-idle : Calm z m → (u : ℕ) → phase m u ≡ Asleep → (t : ℕ) → phase m t ≡ Idle → {w : ℕ} → Led m u w → w ≢ t
+  led-not-idle calm u slept t idle l s = let k : _≡_ {A = ℕ} 4 0 = ap kindOf (sym (led-sleeps calm u slept l) ∙ ap (phase m) s ∙ idle) in omega (arith, k)
+
+-- One try ----------------------------------------------------------------------------------------------------------------------------------
 
 module _ (z : Sizes) (m : Memory) (t : ℕ) (lt : t < z .tasks) (ok : sound z m ≡ true) (us : List Use) (e : AllZero ours z m (body t us)) where
   abbrev A : ℕ → Type 0
@@ -99,7 +116,48 @@ module _ (z : Sizes) (m : Memory) (t : ℕ) (lt : t < z .tasks) (ok : sound z m 
       O = left (3 * n + 2) _ 21 (Over z t lt c) more (commits-so f)
 
   module _ (calm : Calm z m) (idle : phase m t ≡ Idle) (i : ℕ) (h : i < n) (f : Free z t lt c i) (u : ℕ) (q : held c (rec i) ≡ Owner u) where
-    wakes : Wakes ours z m t us u (leaves ours z m (try t us (suc i + suc (entered ours z m t us))))
+    abbrev m′ : Memory
+    m′ = leaves ours z m (try t us (suc i + suc (entered ours z m t us)))
+
+    owned : held m (rec i) ≡ Owner u
+    owned = sym (same-held (rec i)) ∙ q
+
+    -- on a calm table an owner sleeps
+    asleep : phase m u ≡ Asleep
+    asleep = ⊎-elim (λ s. absurd (owns-none z m ok u (ap steps s) (rec i) (below i) owned)) (λ s. s) (calm u (owner-task z m ok (rec i) u (below i) owned))
+
+    not-t : {w : ℕ} → Led m u w → w ≢ t
+    not-t = led-not-idle z m ok calm u asleep t idle
+
+    more : suc i + suc (entered ours z m t us) ≡ suc (i + suc n)
+    more = omega (arith, C .count)
+
+    R : Reaches z t c (i + suc n) 22 (Fell z c t u)
+    R = falls z t lt c (C .ok) (C .not-owner) (C .taking) i h f u (not-t itself) q
+
+    F : Fell z c t u m′
+    F = left (i + suc n) _ 22 (Fell z c t u) more R
+
+    -- the task itself is on no list, neither before nor when it takes
+    joined-before : (w v : ℕ) → Joined c w v → Joined m w v
+    joined-before =
+        everywhere (λ w. (v : ℕ) → Joined c w v → Joined m w v) t (λ v j. absurd (on-none z c (C .ok) t (ap mayJoin (C .taking)) v j))
+        (λ w ne v j. subst (λ (q : Place). has (q .joins) v ≡ true) (same-place w ne) j)
+
+    joined-after : (w v : ℕ) → Joined m w v → Joined c w v
+    joined-after =
+        everywhere (λ w. (v : ℕ) → Joined m w v → Joined c w v) t (λ v j. absurd (on-none z m ok t (ap mayJoin idle) v j))
+        (λ w ne v j. subst⁻¹ (λ (q : Place). has (q .joins) v ≡ true) (same-place w ne) j)
+
+    ends : (w : ℕ) → w ≢ t → EndsWith m u w (place m w) (place m′ w)
+    ends w ne =
+        ends-from c m joined-before joined-after u w (subst (λ (q : Place). EndsWith c u w q (place m′ w)) (same-place w ne) (F .others w ne))
+
+    others : (w : ℕ) → (Led m u w → ⊥) → (w ≡ t) ⊎ (w ≢ t) → place m′ w ≡ place m w
+    others w n (inl s) = ap (place m′) s ∙ F .own ∙ sym (idle-ended z m ok t lt idle) ∙ ap (place m) (sym s)
+    others w n (inr s) = ends w s .1 n
+
+    wakes : Wakes ours z m t us u m′
     wakes =
         record {
           slept = asleep;
@@ -108,41 +166,12 @@ module _ (z : Sizes) (m : Memory) (t : ℕ) (lt : t < z .tasks) (ok : sound z m 
           within = omega (arith, C .count);
           is-after = refl;
           answers = says (i + suc n) _ 22 (Fell z c t u) more R;
-          woken = F .struck-one ∙ ap (λ (p : Place). moved p (struck (p .phase))) (same-place u not-t)
-              ∙ ap (λ (p : Phase). moved (place m u) (struck p)) asleep;
-          others = λ w nu. others w nu (same? w t);
+          woken = λ w l. let E = ends w (not-t l) .0 l in (E .phase ∙ ap struck (led-sleeps z m ok calm u asleep l), E);
+          others = λ w n. others w n (same? w t);
           words = F .words ∙ C .keeps .words;
           records = F .records ∙ C .keeps .records;
           runs = λ w j ne d. entry-from c m′ z (F .entries) w j ∙ C .keeps .runs w j ne d;
         }
-      where
-        m′ : Memory
-        m′ = leaves ours z m (try t us (suc i + suc (entered ours z m t us)))
-
-        owned : held m (rec i) ≡ Owner u
-        owned = sym (same-held (rec i)) ∙ q
-
-        -- on a calm table an owner sleeps
-        asleep : phase m u ≡ Asleep
-        asleep = ⊎-elim (λ s. absurd (owns-none z m ok u (ap steps s) (rec i) (below i) owned)) (λ s. s) (calm u (owner-task z m ok (rec i) u (below i) owned))
-
-        not-t : u ≢ t
-        not-t s = C .not-owner (rec i) (below i) (q ∙ ap Owner s)
-
-        more : suc i + suc (entered ours z m t us) ≡ suc (i + suc n)
-        more = omega (arith, C .count)
-
-        R : Reaches z t c (i + suc n) 22 (Fell z c t u)
-        R = falls z t lt c (C .ok) (C .not-owner) (C .taking) i h f u not-t q
-
-        F : Fell z c t u m′
-        F = left (i + suc n) _ 22 (Fell z c t u) more R
-
-        others : (w : ℕ) → w ≢ u → (w ≡ t) ⊎ (w ≢ t) → place m′ w ≡ place m w
-        others w nu (inl s) =
-            ap (place m′) s ∙ F .own ∙ ap (λ (k : ℕ). bare k Idle) (sym (idle-0 z m ok t lt (ap isIdle idle)))
-            ∙ ap (moved (place m t)) (sym idle) ∙ ap (place m) (sym s)
-        others w nu (inr s) = F .others w s nu ∙ same-place w s
 
 pub from-the-start-it-commits : FromTheStartItCommits ours
 from-the-start-it-commits z m t lt ok calm us e =

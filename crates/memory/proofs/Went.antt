@@ -1,19 +1,21 @@
 -- The step, taken apart once: every step of a sound table by a task that may step goes by one of these lines.
 use Prim.Native.Nat.{ℕ, suc, _%_, _<_, _≤_}
 use mathlib.Core.Path.{_≡_, refl, sym, ap, _∙_, subst, subst⁻¹}
-use mathlib.Core.Logic.{_⊎_, inl, inr, _≢_}
-use mathlib.Core.Bool.{true, false, false≢true, true≢false}
+use mathlib.Core.Logic.{_⊎_, inl, inr, _≢_, ⊎-elim}
+use mathlib.Core.Bool.{true, false, not, false≢true, true≢false}
 use lib.Dec.{eqb, ltb}
 use lib.ListN.{length}
 use native.Mathlib.Omega.{arith}
 use native.Mathlib.Nat.{mod-lt}
-use borrow.Author.Tests.{ltb-true, ltb-false, eqb-true, eqb-false}
-use Rattle.memory.specs.{if_then_else_, Sizes, Goal, Commit, Sleep, Outcome, Committed, Failed, Phase, Idle, Open, Taking, Asleep, Writing, Releasing, Place, Held, Version, Owner, Memory, positionOf, steps, place, entry, held, ended, moved, setWord, setHeld, setPlace, move, sound, Reply, reply, refused, refusal, wakes, clash, meet, takeStep, decide, endNumber, releaseStep, stepIn, step, SP, call, decided, final}
-use Rattle.memory.proofs.Tools.{if-cases}
+use borrow.Author.Tests.{ltb-true, ltb-false, eqb-true, eqb-false, not-true, not-false}
+use Rattle.memory.specs.{if_then_else_, Sizes, Goal, Commit, Sleep, Outcome, Committed, Failed, Phase, Idle, Open, Taking, Asleep, Writing, Releasing, Place, Held, Version, Owner, Memory, positionOf, steps, place, entry, held, ended, moved, setWord, setHeld, setPlace, move, sound, mayJoin, endsWith, joining, versionOn, joined, Led, Reply, reply, refused, refusal, wakes, clash, meet, takeStep, decide, endNumber, releaseStep, stepIn, step, SP, call, decided, final}
+use Rattle.memory.proofs.Tools.{both, if-cases}
+use Rattle.memory.proofs.Leads.{led-cases, ends-led}
 use Rattle.memory.proofs.Codes.{not-owner, owner-inj, final-is}
 use Rattle.memory.proofs.Cases.{asked-cases, asked-0}
-use Rattle.memory.proofs.Stores.{place-same, clash-other, clash-length, clash-entries}
-use Rattle.memory.proofs.Facts.{some-record, in-places, position-n, owner-task}
+use Rattle.memory.proofs.Stores.{place-same}
+use Rattle.memory.proofs.Clashes.{clash-other, clash-length, clash-entries}
+use Rattle.memory.proofs.Facts.{some-record, in-places, position-n, owner-task, on-none}
 
 -- a task that does not step is Idle or Open, and one that does is neither
 pub not-steps : (p : Phase) → steps p ≡ false → (p ≡ Idle) ⊎ (p ≡ Open)
@@ -41,14 +43,18 @@ module _ (z : Sizes) (m : Memory) (t : ℕ) where
   recordAt i = entry z m t i .address % z .records
 
   -- From a phase, by stores that leave the task's place and all entries alone, to a phase. At entry i a task that takes finds its
-  -- record at the old version, its own, at another version, or another's; one that releases finds it its own or not.
+  -- record at the old version, its own, at another version, or another's, which it may not join or whose version differs; one that
+  -- releases finds it its own or not.
   pub data Does : Phase → Memory → Phase → Type 0 where
     takes : (g : Goal) (i : ℕ) → i < n → held m (recordAt i) ≡ Version (entry z m t i .old .version)
         → Does (Taking g i) (setHeld m (recordAt i) (Owner t)) (Taking g (suc i))
     has : (g : Goal) (i : ℕ) → i < n → held m (recordAt i) ≡ Owner t → Does (Taking g i) m (Taking g (suc i))
     late : (g : Goal) (i : ℕ) → i < n → (v : ℕ) → held m (recordAt i) ≡ Version v → v ≢ entry z m t i .old .version
         → Does (Taking g i) m (Releasing Failed 0)
-    meets : (g : Goal) (i : ℕ) → i < n → (u : ℕ) → held m (recordAt i) ≡ Owner u → u ≢ t → Does (Taking g i) (clash z m u) (Releasing Failed 0)
+    meets : (g : Goal) (i : ℕ) → i < n → (u : ℕ) → held m (recordAt i) ≡ Owner u → u ≢ t → joining g (place m u .phase) ≡ false
+        → place (clash z m u) t ≡ place m t → Does (Taking g i) (clash z m u) (Releasing Failed 0)
+    differs : (i : ℕ) → i < n → (u : ℕ) → held m (recordAt i) ≡ Owner u → u ≢ t → wakes (place m u .phase) ≡ true
+        → versionOn z m u (recordAt i) ≢ entry z m t i .old .version → Does (Taking Sleep i) m (Releasing Failed 0)
     chooses : (g : Goal) → Does (Taking g n) m (decided g)
     writes : (i : ℕ) → i < n → Does (Writing i) (setWord m (entry z m t i .address) (entry z m t i .new .value)) (Writing (suc i))
     wrote-all : Does (Writing n) m (Releasing Committed 0)
@@ -59,6 +65,9 @@ module _ (z : Sizes) (m : Memory) (t : ℕ) where
   -- from a phase, with this reply
   pub data Went : Phase → Reply → Type 0 where
     moves : {p p′ : Phase} {m₁ : Memory} → Does p m₁ p′ → Went p (reply (told p′) 0 (move m₁ t p′))
+    joins : (i : ℕ) → i < n → (u : ℕ) → held m (recordAt i) ≡ Owner u → u ≢ t → wakes (place m u .phase) ≡ true
+        → versionOn z m u (recordAt i) ≡ entry z m t i .old .version
+        → Went (Taking Sleep i) (reply 0 0 (setPlace m t (joined z u (place m t) (Taking Sleep (suc i)))))
     rests : Went Asleep (reply 20 0 m)
     ends : (o : Outcome) → Went (Releasing o n) (reply (endNumber o) 0 (setPlace m t ended))
 
@@ -72,6 +81,18 @@ module _ (z : Sizes) (m : Memory) (t : ℕ) (ok : sound z m ≡ true) (lt : t < 
   at-end : (p : Phase) → place m t .phase ≡ p → c ≤ positionOf p → c ≡ positionOf p
   at-end p e h = omega (arith, h, subst (λ (x : Phase). positionOf x ≤ c) e (position-n z m ok t lt))
 
+  -- Who clashes with a sleeper takes to commit, so it is on no list, and does not end with the sleeper.
+  may-not-join : (g : Goal) (i : ℕ) (p : Phase) → joining g p ≡ false → wakes p ≡ true → mayJoin (Taking g i) ≡ false
+  may-not-join Commit i p j w = refl
+  may-not-join Sleep i p j w = absurd (true≢false (sym w ∙ j))
+
+  pub comer-stays : (g : Goal) (i u : ℕ) → place m t .phase ≡ Taking g i → u ≢ t → joining g (place m u .phase) ≡ false → place (clash z m u) t ≡ place m t
+  comer-stays g i u e ne j = clash-other z m u t (λ q. ne (sym q)) (λ w. ⊎-elim (λ x. absurd (led w (ends-led m z u t x))) (λ x. x) (both (endsWith z m u t)))
+    where
+      led : wakes (place m u .phase) ≡ true → Led m u t → ⊥
+      led w l =
+          ⊎-elim (λ q. ne (sym q)) (λ k. on-none z m ok t (ap mayJoin e ∙ may-not-join g i (place m u .phase) j w) (k .0) (k .2)) (led-cases m l)
+
   goes : (p : Phase) → place m t .phase ≡ p → steps p ≡ true → Went z m t p (stepIn z m t c p)
   unfolding stepIn
   goes Idle e s = absurd (false≢true s)
@@ -84,12 +105,26 @@ module _ (z : Sizes) (m : Memory) (t : ℕ) (ok : sound z m ≡ true) (lt : t < 
       P : Memory → Type 0
       P m′ = Went z m t (Taking g i) (reply 0 0 m′)
 
+      -- who would sleep joins a sleeper at the same version
+      beside : (g : Goal) → i < c → (u : ℕ) → held m (recordAt z m t i) ≡ Owner u → u ≢ t → joining g (place m u .phase) ≡ true
+          → Went z m t (Taking g i) (reply 0 0 (if eqb (versionOn z m u (recordAt z m t i)) (entry z m t i .old .version) then setPlace m t (joined z u (place m t) (Taking g (suc i))) else
+          move m t (Releasing Failed 0)))
+      beside Commit h u q ne j = absurd (false≢true j)
+      beside Sleep h u q ne j =
+          if-cases (λ m′. Went z m t (Taking Sleep i) (reply 0 0 m′)) (eqb (versionOn z m u (recordAt z m t i)) (entry z m t i .old .version)) _ _
+          (λ d. joins i h u q ne j (eqb-true _ _ d)) (λ d. moves (differs i h u q ne j (eqb-false _ _ d)))
+
+      met : i < c → (u : ℕ) → held m (recordAt z m t i) ≡ Owner u → u ≢ t → P (meet z m t g i (entry z m t i) u)
+      met h u q ne = unfold meet in
+          if-cases P (not (joining g (place m u .phase))) _ _
+          (λ d. moves (meets g i h u q ne (not-true _ d) (comer-stays g i u e ne (not-true _ d)))) (λ d. beside g h u q ne (not-false _ d))
+
       take : i < c → (k : Held) → held m (recordAt z m t i) ≡ k → P (takeStep z m t g i (recordAt z m t i) (entry z m t i) k)
       take h (Version v) q = unfold takeStep in
           if-cases P (eqb v (entry z m t i .old .version)) _ _
           (λ d. moves (takes g i h (q ∙ ap Version (eqb-true _ _ d)))) (λ d. moves (late g i h v q (eqb-false _ _ d)))
-      take h (Owner u) q = unfold takeStep meet in
-          if-cases P (eqb u t) _ _ (λ d. moves (has g i h (q ∙ ap Owner (eqb-true _ _ d)))) (λ d. moves (meets g i h u q (eqb-false _ _ d)))
+      take h (Owner u) q = unfold takeStep in
+          if-cases P (eqb u t) _ _ (λ d. moves (has g i h (q ∙ ap Owner (eqb-true _ _ d)))) (λ d. met h u q (eqb-false _ _ d))
 
       chosen : (g : Goal) → Went z m t (Taking g c) (decide m t g)
       chosen Commit = unfold decide in moves (chooses Commit)
@@ -134,7 +169,8 @@ module _ (z : Sizes) (m : Memory) (t : ℕ) (ok : sound z m ≡ true) (lt : t < 
   aside (takes g i h e) = (refl, refl, refl, inl refl)
   aside (has g i h e) = (refl, refl, refl, inl refl)
   aside (late g i h v e x) = (refl, refl, refl, inl refl)
-  aside (meets g i h u e x) = (clash-other z m u t (λ q. x (sym q)), clash-length z m u, clash-entries z m u, inr refl)
+  aside (meets g i h u e x j stays) = (stays, clash-length z m u, clash-entries z m u, inr refl)
+  aside (differs i h u e x a v) = (refl, refl, refl, inl refl)
   aside (chooses g) = (refl, refl, refl, inl refl)
   aside (writes i h) = (refl, refl, refl, inl refl)
   aside wrote-all = (refl, refl, refl, inl refl)

@@ -6,11 +6,13 @@ use mathlib.Core.List.{List, []}
 use mathlib.Core.Bool.{Bool, true, _&&_}
 use lib.Dec.{leb}
 use lib.ListN.{getD, set}
-use Rattle.memory.specs.Pieces.{Sizes, Failed, Woken, Releasing, Place, Memory, place, moved, entry, limit}
-use Rattle.memory.specs.Step.{fails, wakes}
+use Rattle.memory.specs.Pieces.{Sizes, Place, Memory, place, entry, limit}
+use Rattle.memory.specs.Lists.{has}
+use Rattle.memory.specs.Step.{ending}
 use Rattle.memory.specs.Sound.{sound}
 use Rattle.memory.specs.Calls.{Call, ST, CM, AB, WT, SP, RD, WR}
 use Rattle.memory.specs.Machines.{Machine}
+use Rattle.memory.specs.Ways.{Led}
 
 -- from any sound table on, over every call, refused ones too
 abbrev pub SoundLasts : Machine → Type 0
@@ -37,18 +39,19 @@ pub record KeepsOthers (z : Sizes) (m : Memory) (t : ℕ) (m′ : Memory) : Type
   pub places : (u : ℕ) → u ≢ t → getD (m′ .places) u [] ≡ getD (m .places) u []
   pub runs : (u i : ℕ) → u ≢ t → i < limit z → entry z m′ u i ≡ entry z m u i
 
--- a clash moves the owner's place on: failed from Taking, woken from Asleep
-abbrev pub Clashed : Place → Place → Type 0
-Clashed q q′ =
-    ((fails (q .phase) ≡ true) × (q′ ≡ moved q (Releasing Failed 0)))
-    ⊎ ((wakes (q .phase) ≡ true) × (q′ ≡ moved q (Releasing Woken 0)))
+-- a clash moves a place on, and puts it on no list
+pub record Clashed (q q′ : Place) : Type 0 where
+  pub count : q′ .count ≡ q .count
+  pub phase : q′ .phase ≡ ending (q .phase)
+  pub joins : (w : ℕ) → has (q′ .joins) w ≡ true → has (q .joins) w ≡ true
 
--- a step: no entry; one word or one record; its own place, and that of the one owner which it met
+-- a step: no entry; one word or one record; its own place, and those of the one owner which it met and of whoever
+-- ends with it
 pub record StepsNarrowly (m : Memory) (t : ℕ) (m′ : Memory) : Type 0 where
   pub entries : m′ .entries ≡ m .entries
   pub one : (OneChange (m .words) (m′ .words) × (m′ .records ≡ m .records)) ⊎ ((m′ .words ≡ m .words) × OneChange (m .records) (m′ .records))
   pub owner : ℕ
-  pub places : (u : ℕ) → u ≢ t → (getD (m′ .places) u [] ≡ getD (m .places) u []) ⊎ ((u ≡ owner) × Clashed (place m u) (place m′ u))
+  pub places : (u : ℕ) → u ≢ t → (getD (m′ .places) u [] ≡ getD (m .places) u []) ⊎ (Led m owner u × Clashed (place m u) (place m′ u))
 
 abbrev pub Narrow : Sizes → Memory → Call → Memory → Type 0
 Narrow z m (ST t) m′ = KeepsOthers z m t m′

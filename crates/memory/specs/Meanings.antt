@@ -1,13 +1,15 @@
 -- What the other claims lean on, in other words: the numbers that bound the pieces, a sound table, and the logical value and version.
-use Prim.Native.Nat.{ℕ, suc, _+_, _*_, _%_, _<_, _≤_}
+use Prim.Native.Nat.{ℕ, suc, _+_, _*_, _/_, _%_, _^_, _<_, _≤_}
 use mathlib.Core.Path.{_≡_}
 use mathlib.Core.Logic.{_⊎_, _≢_, _↔_}
 use mathlib.Core.List.{[], _∷_}
 use mathlib.Core.Bool.{Bool, true}
 use lib.ListN.{getD}
 use Rattle.memory.specs.Pieces.{Sizes, Goal, Commit, Sleep, Outcome, Committed, Failed, Woken, Phase, Idle, Open, Taking, Asleep, Writing, Releasing, Place, Version, Owner, Seen, Entry, Memory, placeOf, rowOf, place, bare, entryOf, rowOfEntry, entry, entries, held, limit, runStart, mostWords, mostRecords, mostTasks, topVersion}
+use Rattle.memory.specs.Lists.{has}
 use Rattle.memory.specs.Sound.{sound}
 use Rattle.memory.specs.History.{_∈_}
+use Rattle.memory.specs.Ways.{Joined, Led}
 use Rattle.memory.specs.Answers.{phase, Fits, New}
 
 -- The numbers --------------------------------------------------------------------------------------------------------------------
@@ -25,15 +27,18 @@ pub record Figures : Type 0 where
 
 -- §3.4 to §3.7: how a place and an entry stand in their rows, which a program lends and may look at. What is stored is read back.
 pub record Layout : Type 0 where
-  pub idle : (n : ℕ) → rowOf (bare n Idle) ≡ n ∷ 0 ∷ 0 ∷ []
-  pub opened : (n : ℕ) → rowOf (bare n Open) ≡ n ∷ 1 ∷ 0 ∷ []
-  pub taking-to-commit : (n i : ℕ) → rowOf (bare n (Taking Commit i)) ≡ n ∷ 2 ∷ i ∷ []
-  pub taking-to-sleep : (n i : ℕ) → rowOf (bare n (Taking Sleep i)) ≡ n ∷ 3 ∷ i ∷ []
-  pub asleep : (n : ℕ) → rowOf (bare n Asleep) ≡ n ∷ 4 ∷ 0 ∷ []
-  pub writing : (n i : ℕ) → rowOf (bare n (Writing i)) ≡ n ∷ 5 ∷ i ∷ []
-  pub committed : (n i : ℕ) → rowOf (bare n (Releasing Committed i)) ≡ n ∷ 6 ∷ i ∷ []
-  pub failed : (n i : ℕ) → rowOf (bare n (Releasing Failed i)) ≡ n ∷ 7 ∷ i ∷ []
-  pub woken : (n i : ℕ) → rowOf (bare n (Releasing Woken i)) ≡ n ∷ 8 ∷ i ∷ []
+  pub idle : (n : ℕ) → rowOf (bare n Idle) ≡ n ∷ 0 ∷ 0 ∷ 0 ∷ []
+  pub opened : (n : ℕ) → rowOf (bare n Open) ≡ n ∷ 1 ∷ 0 ∷ 0 ∷ []
+  pub taking-to-commit : (n i : ℕ) → rowOf (bare n (Taking Commit i)) ≡ n ∷ 2 ∷ i ∷ 0 ∷ []
+  pub taking-to-sleep : (n i : ℕ) → rowOf (bare n (Taking Sleep i)) ≡ n ∷ 3 ∷ i ∷ 0 ∷ []
+  pub asleep : (n : ℕ) → rowOf (bare n Asleep) ≡ n ∷ 4 ∷ 0 ∷ 0 ∷ []
+  pub writing : (n i : ℕ) → rowOf (bare n (Writing i)) ≡ n ∷ 5 ∷ i ∷ 0 ∷ []
+  pub committed : (n i : ℕ) → rowOf (bare n (Releasing Committed i)) ≡ n ∷ 6 ∷ i ∷ 0 ∷ []
+  pub failed : (n i : ℕ) → rowOf (bare n (Releasing Failed i)) ≡ n ∷ 7 ∷ i ∷ 0 ∷ []
+  pub woken : (n i : ℕ) → rowOf (bare n (Releasing Woken i)) ≡ n ∷ 8 ∷ i ∷ 0 ∷ []
+  -- the fourth number is the set of the sleepers that it joined: the task of each binary digit that is 1
+  pub joined : (q : Place) → getD (rowOf q) 3 0 ≡ q .joins
+  pub set : (s t : ℕ) → (has s t ≡ true) ↔ (s / 2 ^ t % 2 ≡ 1)
   pub place-read-back : (q : Place) → placeOf (rowOf q) ≡ q
   pub entry : (e : Entry) → rowOfEntry e ≡ e .address ∷ e .old .value ∷ e .new .value ∷ e .old .version ∷ e .new .version ∷ []
   pub entry-read-back : (e : Entry) → entryOf (rowOfEntry e) ≡ e
@@ -69,6 +74,12 @@ pub record SoundOwner (z : Sizes) (m : Memory) (r t : ℕ) : Type 0 where
   pub busy : (phase m t ≢ Idle) × (phase m t ≢ Open)
   pub has : (j : ℕ) × (j < place m t .count) × (entry z m t j .address % z .records ≡ r) × ((o : Outcome) (i : ℕ) → phase m t ≡ Releasing o i → i ≤ j)
 
+-- §10.13, §10.14: a task t and one whose list it is on. Only a sleeper has a list, and from whoever is on it no way leads back.
+pub record SoundJoin (m : Memory) (t w : ℕ) : Type 0 where
+  pub sleeps : phase m w ≡ Asleep
+  pub ends : (phase m t ≡ Asleep) ⊎ (((i : ℕ) × (phase m t ≡ Taking Sleep i)) ⊎ ((o : Outcome) × (i : ℕ) × (phase m t ≡ Releasing o i)))
+  pub ahead : Led m t w → ⊥
+
 pub record SoundTable (z : Sizes) (m : Memory) : Type 0 where
   pub words : (1 ≤ z .words) × (z .words ≤ mostWords)
   pub records : (1 ≤ z .records) × (z .records ≤ mostRecords)
@@ -77,6 +88,8 @@ pub record SoundTable (z : Sizes) (m : Memory) : Type 0 where
   pub each-task : (t : ℕ) → t < z .tasks → SoundTask z m t
   pub versions : (r v : ℕ) → r < z .records → held m r ≡ Version v → (1 ≤ v) × (v ≤ topVersion)
   pub owners : (r t : ℕ) → r < z .records → held m r ≡ Owner t → SoundOwner z m r t
+  pub joins : (t : ℕ) → t < z .tasks → place m t .joins < 2 ^ z .tasks
+  pub lists : (t w : ℕ) → t < z .tasks → Joined m t w → SoundJoin m t w
 
 -- Of a test: it passes exactly the sound tables. There is one such test.
 abbrev pub SoundMeans : (Sizes → Memory → Bool) → Type 0

@@ -1,5 +1,5 @@
--- §14: slips. More wrong machines, and wrong histories, each ours but for what its line says. SlipsRefuted says which claim each
--- breaks.
+-- §14: slips. More wrong machines, and wrong histories, each ours but for what its line says. SlipsLists has those of lists;
+-- SlipsRefuted says which claim each breaks.
 use Prim.Native.Nat.{ℕ, suc, _+_, _*_, _%_}
 use mathlib.Core.Path.{_≡_}
 use mathlib.Core.List.{List, [], _∷_}
@@ -211,7 +211,7 @@ changesNothing = record { call = λ z m c. over m (call z m c); openBoard = λ z
 
 -- What the claims lean on ---------------------------------------------------------------------------------------------------------
 
--- A test of soundness that does not look at the records: any owner passes.
+-- A test of soundness that does not look at the records nor at the lists: any owner passes.
 abbrev pub passesAnyOwner : Sizes → Memory → Bool
 passesAnyOwner z m = sizesOk z && lengthsOk z m && allBelow (z .tasks) (λ t. taskOk z m t)
 

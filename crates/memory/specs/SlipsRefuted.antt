@@ -2,13 +2,14 @@
 use Rattle.memory.specs.Answers.{CallAnswers, OpeningAnswers, LookAnswers}
 use Rattle.memory.specs.Effects.{RequestsLeave, OpeningLeaves, OpeningIsSound}
 use Rattle.memory.specs.Stepping.{StepsLeave, ClashesEnd}
-use Rattle.memory.specs.Kept.{RefusalsKeep, CallsAreNarrow}
+use Rattle.memory.specs.Kept.{RefusalsKeep, CallsAreNarrow, SoundLasts}
 use Rattle.memory.specs.Order.{Always, CommittedIsListed}
 use Rattle.memory.specs.Alone.{AloneItCommits}
 use Rattle.memory.specs.Whole.{ATryEnds, WholeTurnsComeThrough}
 use Rattle.memory.specs.Meanings.{SoundMeans, LogicalMeans}
 use Rattle.memory.specs.Wrong.{reading, writing}
 use Rattle.memory.specs.Slips.{startResetsAnother, sixForKnown, nineBeforeSix, sixtyThree, sixBeforeFive, readKeepsSecond, writeKeepsSecond, readsBareWord, eightAddsEntry, thousandInWrite, looksBareWord, openingOneFirst, thousandInOpening, thirtyOneTasks, opensEntriesAsLent, opensWithAnOwner, asleepAnswers0, thirdTakeFails, restsOnce, releasesEarly, inventsVersions, commitsAtOnce, committerUntouched, waiterUntouched, sleeperUntouched, comerUntouched, comerSteals, endsCommitted, wakesAndTakes, alwaysRefuses, alwaysFails, changesNothing, passesAnyOwner, seesBareWord, onlyWriters, noCommit, countsNoWriter}
+use Rattle.memory.specs.SlipsLists.{wakesOne, takersLeft, listsKept, joinsAnyVersion, differingWakes, joinsTaker, joinsLast, idleStaysListed, passesWayBack}
 
 pub record SlipsAreRefuted : Type 0 where
   -- requests
@@ -53,6 +54,16 @@ pub record SlipsAreRefuted : Type 0 where
   pub comer-steals : ClashesEnd comerSteals → ⊥
   pub ends-committed : ClashesEnd endsCommitted → ⊥
   pub wakes-and-takes : ClashesEnd wakesAndTakes → ⊥
+  -- lists
+  pub wakes-one : ClashesEnd wakesOne → ⊥
+  pub takers-left : ClashesEnd takersLeft → ⊥
+  pub lists-kept : ClashesEnd listsKept → ⊥
+  pub lists-kept-unsound : SoundLasts listsKept → ⊥
+  pub joins-any-version : ClashesEnd joinsAnyVersion → ⊥
+  pub differing-wakes : ClashesEnd differingWakes → ⊥
+  pub joins-taker : ClashesEnd joinsTaker → ⊥
+  pub joins-last : ClashesEnd joinsLast → ⊥
+  pub idle-stays-listed : StepsLeave idleStaysListed → ⊥
   -- all in all
   pub always-refuses : CallAnswers alwaysRefuses → ⊥
   pub always-fails : CallAnswers alwaysFails → ⊥
@@ -60,6 +71,7 @@ pub record SlipsAreRefuted : Type 0 where
   pub opening-changes-nothing : OpeningLeaves changesNothing → ⊥
   -- what the claims lean on
   pub passes-any-owner : SoundMeans passesAnyOwner → ⊥
+  pub passes-way-back : SoundMeans passesWayBack → ⊥
   pub sees-bare-word : LogicalMeans seesBareWord → ⊥
   -- histories
   pub only-writers : CommittedIsListed onlyWriters → ⊥

@@ -57,7 +57,7 @@ readScribbles = reading (λ a z m t r. leaving 0 (scribbled z t) r)
 abbrev pub writingStays : Machine
 writingStays = stepping (λ z m t r. leaving 0 (λ x. if is (Writing 0) (place m t .phase) then m else x) r)
 
--- A task in Taking that comes to a record of another task's fails, as it should, and leaves the owner as it was.
+-- A task in Taking that comes to a record of another task's fails, joins nobody, and leaves the owner as it was, with its list.
 abbrev pub another : ℕ → Held → Bool
 another t (Version v) = false
 another t (Owner u) = not (eqb u t)
@@ -70,9 +70,9 @@ comesToAnother z m t =
 abbrev pub ownerStays : Machine
 ownerStays = stepping (λ z m t r. leaving 0 (λ x. if comesToAnother z m t then move m t (Releasing Failed 0) else x) r)
 
--- Start stores its place as a row of four numbers.
+-- Start stores its place as a row of five numbers.
 abbrev pub startWidens : Machine
-startWidens = starting (λ z m t r. leaving 0 (λ x. withPlaces x (set (x .places) t (0 ∷ 1 ∷ 0 ∷ 0 ∷ []))) r)
+startWidens = starting (λ z m t r. leaving 0 (λ x. withPlaces x (set (x .places) t (0 ∷ 1 ∷ 0 ∷ 0 ∷ 0 ∷ []))) r)
 
 -- The opening leaves 1 in word 0.
 abbrev pub openingWrites : Machine

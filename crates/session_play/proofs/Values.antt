@@ -21,15 +21,15 @@ use Rattle.memory.specs.Pieces.{Memory, isIdle, isOpen, place, entry, entryOf, 
 use Rattle.memory.specs.Logical.{indexOf, blank, logical, logicalAt, ownedAt}
 use Rattle.memory.specs.Numbers.{Reply, refused}
 use Rattle.memory.specs.Requests.{opened, start, abort, commit, wait, fresh, added, read, written, rewrite, store, write}
-use Rattle.memory.specs.Step.{wakes, endNumber}
+use Rattle.memory.specs.Step.{wakes, clash, endNumber}
 use Rattle.memory.specs.declared.Call.{Call}
 use Rattle.memory.specs.declared.Call.the-variants.{ST, CM, AB, WT, SP, RD, WR}
 use Rattle.memory.specs.Calls.{call}
 use Rattle.memory.specs.Kept.{refusal}
 use Rattle.memory.proofs.Tools.{if-cases, and-1}
 use Rattle.memory.proofs.Cases.{asked-cases, addressed-cases}
-use Rattle.memory.proofs.Stores.{clash-cases}
-use Rattle.memory.proofs.Went.{Does, takes, has, late, meets, chooses, writes, wrote-all, gives, passes, Went, moves, rests, ends, step-cases}
+use Rattle.memory.proofs.Clashes.{clash-words, clash-entries}
+use Rattle.memory.proofs.Went.{Does, takes, has, late, meets, differs, chooses, writes, wrote-all, gives, passes, Went, moves, joins, rests, ends, step-cases}
 
 -- a list after a store
 all-set : {A : Type 0} (P : A → Type 0) (l : List A) (i : ℕ) (x d : A) → ((j : ℕ) → P (getD l j d)) → P x → (j : ℕ) → P (getD (set l i x) j d)
@@ -114,6 +114,14 @@ module _ (z : Sizes) (m : Memory) (v : Values m) where
   unfolding setEntry entryOf rowOfEntry
   set-entry t i e h = record { words = v .words; rows = all-set (λ r. Small (entryOf r)) (m .entries) _ (rowOfEntry e) [] (v .rows) h }
 
+-- where words and entries are the same
+same-values : (m m′ : Memory) → m′ .words ≡ m .words → m′ .entries ≡ m .entries → Values m → Values m′
+same-values m m′ w e v =
+    record {
+      words = subst⁻¹ (λ (l : List ℕ). (a : ℕ) → getD l a 0 < b) w (v .words);
+      rows = subst⁻¹ (λ (l : List (List ℕ)). (i : ℕ) → Small (entryOf (getD l i []))) e (v .rows);
+    }
+
 set-place : (m : Memory) → Values m → (t : ℕ) (q : Place) → Values (setPlace m t q)
 unfolding setPlace
 set-place m v t q = record { words = v .words; rows = v .rows }
@@ -150,7 +158,8 @@ module _ (z : Sizes) (m : Memory) (v : Values m) where
   does (takes g i h e) = set-held z m v _ _
   does (has g i h e) = v
   does (late g i h n e x) = v
-  does (meets g i h u e x) = clash-cases z m u Values (λ f. set-phase m v _ _) (λ w. set-phase m v _ _) v
+  does (meets g i h u e x j stays) = same-values m (clash z m u) (clash-words z m u) (clash-entries z m u) v
+  does (differs i h u e x w ne) = v
   does (chooses g) = v
   does {t} (writes i h) = set-word z m v _ _ (one-entry z m v t i .1)
   does wrote-all = v
@@ -159,6 +168,7 @@ module _ (z : Sizes) (m : Memory) (v : Values m) where
 
   steps-on : {t : ℕ} {p : Phase} {r : Reply} → Went z m t p r → Few r
   steps-on {t} (moves {p′ = p′} d) = few _ _ (if-cases (λ (n : ℕ). n < 100) (wakes p′) 20 0 (λ s. omega arith) (λ s. omega arith)) (set-phase _ (does d) t p′)
+  steps-on {t} (joins i h u e x w q) = few 0 _ (omega arith) (set-place m v t _)
   steps-on rests = few 20 m (omega arith) v
   steps-on {t} (ends o) = few _ _ (ended o) (set-place m v t _)
     where

@@ -1,7 +1,9 @@
 -- The laws of a step by the task's phase: what each phase does is what the definition says of a task in that phase.
 use Prim.Native.Nat.{ℕ, _<_, _≤_}
 use mathlib.Core.Path.{_≡_, refl, sym, ap, _∙_}
-use mathlib.Core.List.{List}
+use mathlib.Core.List.{List, []}
+use lib.ListN.{getD, set}
+use lib.Seq.{set-getD}
 use native.Mathlib.Omega.{arith}
 use borrow.Author.Tests.{lt-ltb, le-ltb}
 use Rattle.memory.specs.declared.Sizes.{Sizes}
@@ -11,16 +13,21 @@ use Rattle.memory.specs.declared.Outcome.the-variants.{Committed}
 use Rattle.memory.specs.declared.Phase.{Phase}
 use Rattle.memory.specs.declared.Phase.the-variants.{Idle, Open, Taking, Asleep, Writing, Releasing}
 use Rattle.memory.specs.declared.Place.{Place}
-use Rattle.memory.specs.Pieces.{Memory, memory, place, limit, moved, setPlace, move}
-use Rattle.memory.specs.Numbers.{Reply, reply, refused, tooEarly}
+use Rattle.memory.specs.Pieces.{Memory, memory, place, rowOf, limit, moved, setPlace, move}
+use Rattle.memory.specs.Numbers.{Reply, reply, plain, refused, tooEarly}
 use Rattle.memory.specs.Step.{stepIn}
 use Rattle.memory.proofs.Facts.{count-most, position-n}
 use Rattle.step_entry.specs.Contract.{Entered, Leaves, writes, releases}
 use Rattle.step_entry.proofs.Parts.{row-is}
+use Rattle.step_take.specs.Contract as Took
 use Rattle.step_take.specs.Contract.{takes}
-use Rattle.step_take.proofs.Taken.{stays}
 use Rattle.step_phase.specs.declared.Moved.{Moved}
 use Rattle.step_phase.specs.Contract.{Ready, Stepped, Decided, goesTo, endsBy}
+
+-- a row stored back as it was changes nothing
+stays : (m : Memory) (t : ℕ) → getD (m .places) t [] ≡ rowOf (place m t) → setPlace m t (place m t) ≡ m
+unfolding setPlace
+stays m t row = ap (λ (l : List (List ℕ)). memory (m .words) (m .records) l (m .entries)) (ap (set (m .places) t) (sym row) ∙ set-getD (m .places) t [])
 
 -- The step of a task whose place is q -----------------------------------------------------------------------------------------
 
@@ -53,11 +60,16 @@ module _ {q : Place} {z : Sizes} {words records : List ℕ} {places entries : Li
         position-fits = omega (arith, l .near);
       }
 
-  pub over-taking : {g : Goal} {i : ℕ} {p : Phase} {records′ : List ℕ} {places′ : List (List ℕ)} → q .phase ≡ Taking g i → i < q .count
-      → Leaves m (memory words records′ places′ entries) t i p (takes z m t g i)
-      → Stepped q z words records places entries t (goesTo q p 0 .place) words records′ places′ (goesTo q p 0 .answer)
+  pub over-taking : {g : Goal} {i : ℕ} {q′ : Place} {records′ : List ℕ} {places′ : List (List ℕ)} → q .phase ≡ Taking g i → i < q .count
+      → Took.Leaves m (memory words records′ places′ entries) t i q′ (takes z m t g i)
+      → Stepped q z words records places entries t q′ words records′ places′ (plain 0)
   unfolding stepIn
-  over-taking {i = i} e h l = over h l (ap In e ∙ rw (lt-ltb i (q .count) h))
+  over-taking {i = i} e h l =
+      record {
+        leaves = ap (reply 0 0) (l .leaves) ∙ sym (ap In e ∙ rw (lt-ltb i (q .count) h));
+        count-fits = omega (arith, few, l .same-count ∙ ap (λ (x : Place). x .count) (sym (y .own)));
+        position-fits = omega (arith, l .near, l .same-count ∙ ap (λ (x : Place). x .count) (sym (y .own)));
+      }
 
   pub over-writing : {i : ℕ} {p : Phase} {words′ : List ℕ} → q .phase ≡ Writing i → i < q .count
       → Leaves m (memory words′ records places entries) t i p (writes z m t i)

@@ -38,11 +38,16 @@ fn end_number(outcome: Outcome) -> u32
     }
 }
 
-// §7.14: the step that ends a transaction.
-fn end(outcome: Outcome) -> Moved
+// §7.14: the step that ends a transaction. The task has no entries then, and is off every list.
+fn end(place: Place, outcome: Outcome) -> Moved
     ensures { λ r. ⌜ r ≡ endsBy outcome ⌝ }
 {
-    goes(table_rows::ended(), Phase::Idle, end_number(outcome))
+    let gone = table_rows::placed(place, Phase::Idle, 0);
+    goes(
+        table_rows::counted(gone, 0),
+        Phase::Idle,
+        end_number(outcome),
+    )
 }
 
 // §7.9: the deciding step.
@@ -73,8 +78,11 @@ pub fn advance(
     match phase {
         Phase::Taking(goal, i) => {
             if i < count {
-                let next = step_take::take(goal, i, sizes, records, places, entries, task);
-                goes(place, next, 0)
+                let next = step_take::take(place, goal, i, sizes, records, places, entries, task);
+                Moved {
+                    place: next,
+                    answer: memory::without_value(0),
+                }
             } else {
                 decide(place, goal)
             }
@@ -92,7 +100,7 @@ pub fn advance(
                 let next = step_entry::release(outcome, i, sizes, records, entries, task);
                 goes(place, next, 0)
             } else {
-                end(outcome)
+                end(place, outcome)
             }
         }
         Phase::Asleep => goes(place, phase, 20),

@@ -6,7 +6,7 @@ use mathlib.Core.Path.{_≡_, refl, sym, _∙_}
 use mathlib.Core.Logic.{⊎-elim, _⊎_, inl, inr}
 use mathlib.Core.List.{List}
 use mathlib.Core.Bool as bool
-use mathlib.Core.Bool.{Bool, true, false, not, _&&_}
+use mathlib.Core.Bool.{Bool, true, false, not, _&&_, and-true}
 use lib.ListN.{length, getD, set}
 use lib.Seq.{getD-set-same, getD-set-other}
 use borrow.Author.Tests.{not-true, not-false}
@@ -61,3 +61,13 @@ after-set l i k v d h =
     (λ (e : k ≡ i). inl (e, rw e (getD-set-same l i v d h)))
     (λ (n : k ≡ i → ⊥). inr (n, getD-set-other l i k v d n))
     (same? k i)
+
+-- one more: a fault, or none
+module _ (p : ℕ → Bool) (i : ℕ) where
+  pub next-fault : p i ≡ false → allBelow (i + 1) p ≡ false
+  unfolding allBelow
+  next-fault h = rw add-one (and-false (allBelow i p) h)
+
+  pub next-good : p i ≡ true → allBelow (i + 1) p ≡ allBelow i p
+  unfolding allBelow
+  next-good h = rw (add-one, h) (and-true (allBelow i p))

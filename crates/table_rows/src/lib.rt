@@ -4,7 +4,8 @@ ghost use mathlib.Core.List.{[]};
 ghost use Prim.Native.Nat.{_<_, _≤_, _%_};
 ghost use lib.ListN.{length, getD};
 ghost use Rattle.memory.specs.Pieces as spec;
-ghost use Rattle.memory.specs.Pieces.{heldOf, numberOf, placeOf, rowOf, phaseOf, codeOf, positionOf, entryOf, rowOfEntry, mostRecords, mostTasks};
+ghost use Rattle.memory.specs.Step.{fails, wakes};
+ghost use Rattle.memory.specs.Pieces.{heldOf, numberOf, placeOf, rowOf, phaseOf, isIdle, kindOf, codeOf, positionOf, entryOf, rowOfEntry, mostRecords, mostTasks};
 use memory::Entry;
 use memory::EntryRow;
 use memory::Goal;
@@ -98,12 +99,49 @@ pub fn position_of(phase: Phase) -> usize
     }
 }
 
-// A place anew; without a transaction; a place in another phase; a place with another number of entries. No other crate makes a
-// place, so that a part more of one is not lost on the way.
+// The kind of a phase, whatever its goal or outcome: the code of the first that is of its kind.
+fn kind_of(phase: Phase) -> u32
+    ensures { λ r. ⌜ r ≡ kindOf phase ⌝ }
+{
+    match phase {
+        Phase::Idle => 0,
+        Phase::Open => 1,
+        Phase::Taking(_, _) => 2,
+        Phase::Asleep => 4,
+        Phase::Writing(_) => 5,
+        Phase::Releasing(_, _) => 6,
+    }
+}
+
+// Whether a phase is Idle; Taking, for either goal; Asleep.
+pub fn is_idle(phase: Phase) -> bool
+    ensures { λ r. ⌜ r ≡ isIdle phase ⌝ }
+{
+    kind_of(phase) == 0
+}
+
+pub fn is_taking(phase: Phase) -> bool
+    ensures { λ r. ⌜ r ≡ fails phase ⌝ }
+{
+    kind_of(phase) == 2
+}
+
+pub fn is_asleep(phase: Phase) -> bool
+    ensures { λ r. ⌜ r ≡ wakes phase ⌝ }
+{
+    kind_of(phase) == 4
+}
+
+// A place anew; without a transaction; a place in another phase and on other lists; in another phase alone; with another number of
+// entries. No other crate makes a place, so that a part more of one is not lost on the way.
 pub fn bare(count: usize, phase: Phase) -> Place
     ensures { λ r. ⌜ r ≡ spec.bare count phase ⌝ }
 {
-    Place { count, phase }
+    Place {
+        count,
+        phase,
+        joins: 0,
+    }
 }
 
 pub fn ended() -> Place
@@ -112,20 +150,33 @@ pub fn ended() -> Place
     bare(0, Phase::Idle)
 }
 
-pub fn moved(place: Place, phase: Phase) -> Place
-    ensures { λ r. ⌜ r ≡ spec.moved place phase ⌝ }
+pub fn placed(place: Place, phase: Phase, joins: u32) -> Place
+    ensures { λ r. ⌜ r ≡ spec.placed place phase joins ⌝ }
 {
     Place {
         count: place.count,
         phase,
+        joins,
     }
+}
+
+pub fn moved(place: Place, phase: Phase) -> Place
+    ensures { λ r. ⌜ r ≡ spec.moved place phase ⌝ }
+{
+    let joins = place.joins;
+    placed(place, phase, joins)
 }
 
 pub fn counted(place: Place, count: usize) -> Place
     ensures { λ r. ⌜ r ≡ spec.counted place count ⌝ }
 {
     let phase = place.phase;
-    Place { count, phase }
+    let joins = place.joins;
+    Place {
+        count,
+        phase,
+        joins,
+    }
 }
 
 // A task's row as its place.
@@ -134,17 +185,28 @@ pub fn place_of(row: PlaceRow) -> Place
 {
     let count = wide(row[0]);
     let phase = phase_of(row[1], wide(row[2]));
-    Place { count, phase }
+    let joins = row[3];
+    Place {
+        count,
+        phase,
+        joins,
+    }
 }
 
-// A place as a task's row. Both numbers are small in every place that is stored.
+// A place as a task's row. Count and position are small in every place that is stored.
 pub fn row_of(place: Place) -> PlaceRow
     requires { ⌜ (place .count < 4294967296) × (positionOf (place .phase) < 4294967296) ⌝ }
     ensures { λ r. ⌜ r ≡ rowOf place ⌝ }
 {
     let phase = place.phase;
     let count = place.count;
-    [count as u32, code_of(phase), position_of(phase) as u32]
+    let joins = place.joins;
+    [
+        count as u32,
+        code_of(phase),
+        position_of(phase) as u32,
+        joins,
+    ]
 }
 
 // An entry's row as the entry, and back.

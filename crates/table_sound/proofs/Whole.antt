@@ -10,7 +10,8 @@ use Rattle.memory.specs.declared.Sizes.{Sizes}
 use Rattle.memory.specs.declared.Held.{Held}
 use Rattle.memory.specs.declared.Held.the-variants.{Version, Owner}
 use Rattle.memory.specs.Pieces.{memory, heldOf, held, place, entry, limit, mostWords, mostRecords, mostTasks}
-use Rattle.memory.specs.Sound.{sizesOk, lengthsOk, taskOk, heldOk, sound}
+use Rattle.memory.specs.Lists.{onList}
+use Rattle.memory.specs.Sound.{sizesOk, lengthsOk, taskOk, heldOk, joinOk, joinsOk, listsOk, sound}
 use Rattle.table_walk.specs.Walk.{Fit, Room, tablesOk}
 use Rattle.memory.proofs.Tools.{and-0, and-1, within-of}
 use Rattle.memory.proofs.Limits.{run-last}
@@ -46,10 +47,11 @@ module _ (z : Sizes) (w r : List ℕ) (p e : List (List ℕ)) where
   words-out x (Version v) = refl
   words-out x (Owner t) = refl
 
-  pub parts : (sizesOk z && lengthsOk z (memory w r p e) && tablesOk z (memory [] r p e)) ≡ sound z (memory w r p e)
-  unfolding sound tablesOk taskOk held place entry
-  parts = rw (below-same _ _ (z .records) (λ x h. words-out x (heldOf (getD r x 0)))) (go (sizesOk z && lengthsOk z (memory w r p e)) _ _)
+  -- the lists go by the places alone
+  pub parts : (sizesOk z && lengthsOk z (memory w r p e) && tablesOk z (memory [] r p e) && listsOk z (memory [] [] p [])) ≡ sound z (memory w r p e)
+  unfolding sound tablesOk taskOk held listsOk joinsOk joinOk onList place entry
+  parts = rw (below-same _ _ (z .records) (λ x h. words-out x (heldOf (getD r x 0)))) (go (sizesOk z && lengthsOk z (memory w r p e)) _ _ _)
     where
-      go : (a b c : Bool) → (a && (b && c)) ≡ (a && b && c)
-      go true b c = refl
-      go false b c = refl
+      go : (a b c d : Bool) → (a && (b && c) && d) ≡ (a && b && c && d)
+      go true b c d = refl
+      go false b c d = refl

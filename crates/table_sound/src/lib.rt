@@ -46,4 +46,5 @@ pub fn is_sound(
     table_parts::sizes_ok(sizes)
         && table_parts::lengths_ok(sizes, words, records, places, entries)
         && room_ok(sizes, records, places, entries)
+        && table_lists::lists_ok(sizes, places)
 }

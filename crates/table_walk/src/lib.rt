@@ -57,7 +57,6 @@ pub fn tables_ok(
         let base = memory::run_start(sizes, t + 1);
         let start = memory::run_start(sizes, t);
         let run = &entries[start..];
-        // A list that a task's row leads to, as one of sleepers, is walked here, beside its entries.
         let mut top: u32 = 0;
         let mut i: usize = 0;
         'entries: while i < n {

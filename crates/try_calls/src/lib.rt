@@ -1,4 +1,7 @@
-// What the programs that try the memory share: any call, on parts of the tables that are lent as long as it is told.
+// What the programs that try the memory share: any call, on parts of the tables that are lent as long as it is told, and whether two
+// answers are one.
+pub mod same;
+
 use memory::Answer;
 use memory::EntryRow;
 use memory::Looked;

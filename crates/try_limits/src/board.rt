@@ -117,11 +117,12 @@ pub fn compared(rows: &[u32], task: usize) -> Changed {
     Changed { all, own }
 }
 
-fn place_in(row: &[u32], t: usize) -> PlaceRow {
+pub fn place_in(row: &[u32], t: usize) -> PlaceRow {
     [
         get(row, in_places(t, 0)),
         get(row, in_places(t, 1)),
         get(row, in_places(t, 2)),
+        get(row, in_places(t, 3)),
     ]
 }
 

@@ -46,6 +46,9 @@ const XE: u32 = 256 * b'X' as u32 + b'E' as u32;
 // The board is kept, to be put back after each case on a spoiled one.
 const KP: u32 = 256 * b'K' as u32 + b'P' as u32;
 
+// The place of a task is shown.
+const SH: u32 = 256 * b'S' as u32 + b'H' as u32;
+
 // A task reads the addresses 0 to 63.
 const FL: u32 = 256 * b'F' as u32 + b'L' as u32;
 
@@ -54,6 +57,7 @@ pub enum Act {
     Lend,
     Store(usize, u32),
     Keep,
+    Show,
     Fill,
     Nothing,
     Unknown,
@@ -86,13 +90,14 @@ pub fn act_of(line: Line) -> Act {
         XP => Act::Store(board::in_places(t, a), v),
         XE => Act::Store(board::in_entries(t, a), v),
         KP => Act::Keep,
+        SH => Act::Show,
         FL => Act::Fill,
         0 => Act::Nothing,
         _ => Act::Unknown,
     }
 }
 
-// The task of a request.
+// The task of a request, or the one whose place is shown.
 pub fn task_of(line: Line) -> usize {
     wide(line.numbers[1])
 }

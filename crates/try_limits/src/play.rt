@@ -7,6 +7,7 @@ use crate::marks;
 use crate::marks::Act;
 use crate::telling::say;
 use crate::telling::say_part;
+use crate::telling::tell_place;
 use try_calls::exactly;
 use try_serial::asked::Lent;
 use try_serial::asked::put;
@@ -25,6 +26,7 @@ fn obey(line: Line, lent: Lent, rows: &mut [u32]) {
         Act::Call(call) => cases::call(line, call, lent, rows),
         Act::Store(at, number) => put(rows, at, number),
         Act::Keep => board::keep(rows),
+        Act::Show => tell_place(board::place_in(rows, marks::task_of(line))),
         Act::Fill => cases::fill(marks::task_of(line), lent, rows),
         Act::Unknown => say(b"A line has an unknown mark.\n"),
         _ => {}

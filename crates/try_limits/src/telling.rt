@@ -3,6 +3,7 @@ use crate::board::Changed;
 use libc::STDOUT_FILENO;
 use memory::Call;
 use memory::Looked;
+use memory::PlaceRow;
 use try_serial::asked::AnyCall;
 
 pub fn say(text: &[u8]) {
@@ -74,4 +75,12 @@ pub fn tell(call: AnyCall, seen: Looked, changed: Changed) {
     } else {
         say_result(call, seen);
     }
+}
+
+// After a sentence: the numbers of a task's place (§3.4).
+pub fn tell_place(place: PlaceRow) {
+    say_named(b": entries ", place[0]);
+    say_named(b", phase ", place[1]);
+    say_named(b", position ", place[2]);
+    say_line(b", joins ", place[3]);
 }

@@ -17,14 +17,16 @@ const TASKS: u32 = 3;
 
 const FIRST: u32 = 4;
 
-// A board to play on: one in `odd` calls is any call at all, one in `ends` requests of an open transaction ends it, and addresses are
-// drawn below `drawn`.
+// A board to play on: one in `odd` calls is any call at all, one in `ends` requests of an open transaction ends it, `waits` of eight
+// ends are a Wait, one in `writes` uses of an address is a Write, and addresses are drawn below `drawn`.
 pub struct Board {
     pub lent: Lent,
     pub first: u32,
     pub calls: usize,
     pub odd: usize,
     pub ends: usize,
+    pub waits: usize,
+    pub writes: usize,
     pub drawn: usize,
 }
 
@@ -35,6 +37,8 @@ fn of_sizes(words: usize, records: usize, tasks: usize, first: u32) -> Board {
         calls: 120,
         odd: 12,
         ends: 4,
+        waits: 2,
+        writes: 2,
         drawn: words,
     }
 }
@@ -54,6 +58,17 @@ fn contended(now: u32) -> Board {
     let mut b = of_sizes(from_one(now, WORDS, 4), from_one(now, RECORDS, 2), tasks, 1);
     b.calls = 250;
     b.ends = 3;
+    b
+}
+
+// Many tasks that mostly listen, so that lists grow and lead on to others before somebody writes.
+fn listeners(now: u32) -> Board {
+    let tasks = wrapping_add_usize(from_one(now, TASKS, 8), 4);
+    let mut b = of_sizes(4, from_one(now, RECORDS, 4), tasks, 1);
+    b.calls = 600;
+    b.ends = 3;
+    b.waits = 5;
+    b.writes = 8;
     b
 }
 
@@ -101,6 +116,8 @@ pub fn board_of(schedule: usize) -> Board {
         contended(now)
     } else if kind % 4 == 2 {
         near_top(now)
+    } else if kind % 8 == 3 {
+        listeners(now)
     } else {
         small(now)
     }

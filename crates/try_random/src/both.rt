@@ -6,15 +6,23 @@ use memory::Seen;
 use memory::Sizes;
 use std::num::wrapping_add_u32;
 use table_rows::wide;
+use try_calls::same::same_answer;
 use try_serial::asked::Lent;
 use try_serial::ledger;
 
 // Is what an address has what the second machine's board has there?
 fn same_at(seen: Seen, m: &[u32], z: Sizes, a: usize) -> bool {
-    if seen.value != ledger::value(m, a) {
-        return false;
-    }
-    seen.version == ledger::version(m, ledger::record_of(a, z.records))
+    let got = Looked {
+        number: 0,
+        value: seen.value,
+        version: seen.version,
+    };
+    let wanted = Looked {
+        number: 0,
+        value: ledger::value(m, a),
+        version: ledger::version(m, ledger::record_of(a, z.records)),
+    };
+    same_answer(got, wanted)
 }
 
 // How many addresses are the same on both: every one is looked up, in one pass over a table that is checked once.
@@ -76,8 +84,5 @@ pub fn agreeing_on(
 
 // Both answered the same, and every address of the board is the same.
 pub fn same(got: Looked, wanted: Looked, agreed: u32, lent: Lent) -> bool {
-    got.number == wanted.number
-        && got.value == wanted.value
-        && got.version == wanted.version
-        && wide(agreed) == lent.words
+    same_answer(got, wanted) && wide(agreed) == lent.words
 }

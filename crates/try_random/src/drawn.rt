@@ -102,32 +102,35 @@ fn any_of(n: usize, named: Named) -> AnyCall {
 }
 
 // The use of an address.
-fn used(named: Named, now: u32) -> Call {
-    if draw(now, USE, 2) == 0 {
-        Call::RD(named.task, named.address)
-    } else {
+fn used(writes: usize, named: Named, now: u32) -> Call {
+    if draw(now, USE, writes) == 0 {
         Call::WR(named.task, named.address, named.value)
+    } else {
+        Call::RD(named.task, named.address)
     }
 }
 
-// A request of an open transaction: one in `ends` ends it.
-fn of_open(ends: usize, named: Named, now: u32) -> Call {
-    if draw(now, ENDS, ends) != 0 {
-        return used(named, now);
+// A request of an open transaction.
+fn of_open(board: Board, named: Named, now: u32) -> Call {
+    if draw(now, ENDS, board.ends) != 0 {
+        return used(board.writes, named, now);
     }
-    match draw(now, END, 8) {
-        0 => Call::AB(named.task),
-        1 | 2 => Call::WT(named.task),
-        _ => Call::CM(named.task),
+    let end = draw(now, END, 8);
+    if end == 0 {
+        Call::AB(named.task)
+    } else if end <= board.waits {
+        Call::WT(named.task)
+    } else {
+        Call::CM(named.task)
     }
 }
 
 // A request that the phase of the task allows.
-fn allowed(phase: u32, ends: usize, named: Named, now: u32) -> Call {
+fn allowed(phase: u32, board: Board, named: Named, now: u32) -> Call {
     if phase == ledger::IDLE {
         Call::ST(named.task)
     } else if phase == ledger::OPEN {
-        of_open(ends, named, now)
+        of_open(board, named, now)
     } else {
         Call::SP(named.task)
     }
@@ -140,7 +143,7 @@ fn call_for(phase: u32, board: Board, named: Named, now: u32) -> AnyCall {
     } else if draw(now, ODD, board.odd) == 0 {
         any_of(draw(now, ODD_KIND, 9), named)
     } else {
-        AnyCall::Ask(allowed(phase, board.ends, named, now))
+        AnyCall::Ask(allowed(phase, board, named, now))
     }
 }
 

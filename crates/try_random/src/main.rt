@@ -13,7 +13,7 @@ use memory::PlaceRow;
 use tally::Tally;
 
 // The calls of 640 schedules.
-const CALLS: usize = 130400;
+const CALLS: usize = 168800;
 
 // The call of a turn of both, compared, and then every address.
 fn play(
@@ -58,5 +58,5 @@ fn main() {
     let mut entries = [[0u32; memory::ENTRY_WIDTH]; memory::MOST_ROWS];
     let mut m = [0u32; try_serial::ledger::NUMBERS];
     let counts = play_all(&mut words, &mut records, &mut places, &mut entries, &mut m);
-    report::print(counts);
+    report::print(counts, &m);
 }

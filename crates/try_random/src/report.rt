@@ -1,5 +1,6 @@
 // The tally as text on standard output.
 use crate::tally::Tally;
+use try_serial::ledger;
 
 const STANDARD_OUTPUT: i32 = 1;
 
@@ -53,10 +54,24 @@ fn differences(tally: Tally) {
     }
 }
 
-pub fn print(tally: Tally) {
+fn lists(m: &[u32]) {
+    line(b"joined a list", ledger::count(m, ledger::JOINED));
+    line(b"lists emptied", ledger::count(m, ledger::EMPTIED));
+    line(
+        b"lists emptied in a chain",
+        ledger::count(m, ledger::CHAINED),
+    );
+    line(
+        b"takers failed by a list",
+        ledger::count(m, ledger::FAILED_TAKERS),
+    );
+}
+
+pub fn print(tally: Tally, m: &[u32]) {
     played(tally);
     first_answers(tally);
     answers_of_entries(tally);
     answers_of_steps(tally);
+    lists(m);
     differences(tally);
 }

@@ -1,7 +1,8 @@
 // What the second machine keeps, in other terms than the tables of §3: the serial board itself, a value for each address and a
 // version for each record, which a transaction changes all at once at its deciding step, so that no word is looked up through
 // an owner. Beside the board each task has its log, an address and a value a line, and three numbers for each record: the version
-// that the task saw there (0: none), whether it wrote there, and whether it holds it. All stand in one slice of numbers, `m`.
+// that the task saw there (0: none), whether it wrote there, and whether it holds it. For each task it has whether that one is on
+// its list, and one number more while somebody is woken. All stand in one slice of numbers, `m`.
 use crate::asked::get;
 use crate::asked::narrow;
 use crate::asked::put;
@@ -34,10 +35,24 @@ const VERSIONS: usize = limits::WORDS;
 
 const STRETCHES: usize = VERSIONS + limits::RECORDS;
 
-pub const NUMBERS: usize = STRETCHES + limits::TASKS * STRETCH;
+const COUNTS: usize = STRETCHES + limits::TASKS * STRETCH;
 
-// A task's numbers. From ADDRESSES and NEWS on there is one for each line of its log, and from SEEN, WROTE and HOLDS on one for each
-// record.
+pub const NUMBERS: usize = COUNTS + KINDS;
+
+// What is counted, over all openings: tasks that joined a list, lists that a waking emptied, those among them that were on a list
+// themselves, and tasks that a waking found in Taking.
+pub const JOINED: usize = 0;
+
+pub const EMPTIED: usize = 1;
+
+pub const CHAINED: usize = 2;
+
+pub const FAILED_TAKERS: usize = 3;
+
+const KINDS: usize = 4;
+
+// A task's numbers. From ADDRESSES and NEWS on there is one for each line of its log, from SEEN, WROTE and HOLDS on one for each
+// record, and from LIST on one for each task.
 pub const PHASE: usize = 0;
 
 pub const AIM: usize = 1;
@@ -56,7 +71,11 @@ const WROTE: usize = SEEN + limits::RECORDS;
 
 pub const HOLDS: usize = WROTE + limits::RECORDS;
 
-const STRETCH: usize = HOLDS + limits::RECORDS;
+pub const LIST: usize = HOLDS + limits::RECORDS;
+
+pub const ENDS: usize = LIST + limits::TASKS;
+
+const STRETCH: usize = ENDS + 1;
 
 // Where the number of a kind stands in a task's stretch, the first of them or that of line or record i.
 fn place(t: usize, kind: usize, i: usize) -> usize {
@@ -184,8 +203,16 @@ pub fn write_line(m: &mut [u32], t: usize, a: usize, r: usize, v: u32) {
     set(m, t, WROTE, r, 1);
 }
 
-// Idle again, and the log dropped.
+// Off every list.
+fn off_lists(m: &mut [u32], t: usize) {
+    for w in 0..limits::TASKS {
+        set(m, w, LIST, t, 0);
+    }
+}
+
+// Idle again, the log dropped, and off every list.
 pub fn end(m: &mut [u32], records: usize, t: usize) {
+    off_lists(m, t);
     for i in 0..lines(m, t) {
         let r = record_of(address(m, t, i), records);
         set(m, t, SEEN, r, 0);
@@ -212,15 +239,32 @@ pub fn settle_all(m: &mut [u32], records: usize, t: usize) {
     }
 }
 
-fn wipe(m: &mut [u32]) {
-    for i in 0..m.len() {
+// How often a kind of thing was met; and once more.
+pub fn count(m: &[u32], kind: usize) -> u32 {
+    if kind < KINDS {
+        get(m, COUNTS + kind)
+    } else {
+        0
+    }
+}
+
+pub fn note(m: &mut [u32], kind: usize) {
+    let n = count(m, kind);
+    if kind < KINDS {
+        put(m, COUNTS + kind, wrapping_add_u32(n, 1));
+    }
+}
+
+// So many numbers from the first one on are 0 again.
+fn wipe(m: &mut [u32], numbers: usize) {
+    for i in 0..numbers {
         put(m, i, 0);
     }
 }
 
-// A fresh board, and every task Idle.
+// A fresh board, and every task Idle. What was counted stays.
 pub fn clear(m: &mut [u32], first: u32) {
-    wipe(m);
+    wipe(m, COUNTS);
     for r in 0..limits::RECORDS {
         set_version(m, r, first);
     }

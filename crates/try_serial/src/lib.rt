@@ -3,6 +3,7 @@
 pub mod asked;
 pub mod ledger;
 pub mod limits;
+mod lists;
 mod machine;
 
 use asked::AnyCall;

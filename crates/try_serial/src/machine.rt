@@ -6,6 +6,7 @@ use crate::ledger::lines;
 use crate::ledger::record_of;
 use crate::ledger::set;
 use crate::limits;
+use crate::lists;
 use memory::Looked;
 use memory::Sizes;
 
@@ -190,22 +191,11 @@ fn take(m: &mut [u32], z: Sizes, t: usize, r: usize) {
     if may_hold(m, z, t, r, h) {
         set(m, t, ledger::HOLDS, r, 1);
         ledger::advance(m, t);
+    } else if lists::both_sleep(m, z, t, h) {
+        lists::beside(m, t, r, h);
     } else {
         go(m, t, ledger::RELEASING, ledger::FAILED);
-        meet(m, z, h);
-    }
-}
-
-// A task has come upon a record that another one holds, or, where that is no task, that nobody holds.
-fn meet(m: &mut [u32], z: Sizes, h: usize) {
-    if z.tasks <= h {
-        return;
-    }
-    let phase = ledger::phase(m, h);
-    if phase == ledger::TAKING {
-        go(m, h, ledger::RELEASING, ledger::FAILED);
-    } else if phase == ledger::ASLEEP {
-        go(m, h, ledger::RELEASING, ledger::WOKEN);
+        lists::meet(m, z, h);
     }
 }
 

@@ -76,7 +76,7 @@ impl State {
         let failed = |task: usize| {
             before.get(task) == Some(&Some(Phase::TakingToCommit)) && board.phase(task) == Some(Phase::ReleasingFailed)
         };
-        // the one that came stands before the one that it met
+        // the one that came stands before the one that it met; one that would sleep stands in no line
         for task in std::iter::once(step.task).chain(0..board.sizes().tasks) {
             if failed(task) {
                 self.line.join(task);

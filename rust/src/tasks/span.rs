@@ -10,8 +10,9 @@ impl Shared {
     /// A transaction that spans turns: its body may await. It is run until it commits, sleeps or
     /// gives up; after a failure the task stands in line.
     ///
-    /// From when it begins as the first in line, with k the sleepers in its way and the tasks that
-    /// are neither idle nor asleep, it is through at try k + 1 or before. That is measured, not proved.
+    /// From when it begins as the first in line, with k the sleepers that own a record in its way and the
+    /// tasks that are neither idle nor asleep, it is through at try k + 1 or before. That is measured, not
+    /// proved.
     pub async fn span<T>(
         &self,
         task: usize,

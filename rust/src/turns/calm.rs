@@ -27,7 +27,7 @@ impl Board {
                 }
             }
         }
-        // one that was on its way may have failed or woken one before it
+        // one that was on its way may have failed or woken some before it
         match self.is_calm() {
             true => Ok(()),
             false => self.calm_down(),
@@ -35,7 +35,7 @@ impl Board {
     }
 
     /// The tasks that own the record of one of these addresses. Between whole turns they are the
-    /// sleepers in the way of a turn that uses these addresses.
+    /// sleepers in the way of a turn that uses these addresses. Those on their lists own nothing there.
     pub fn owners(&self, addresses: &[usize]) -> Vec<usize> {
         let records = &self.tables().records;
         let owns = |task: &usize| {
@@ -46,19 +46,37 @@ impl Board {
         (0..self.sizes().tasks).filter(owns).collect()
     }
 
+    /// The sleepers that a commit which uses these addresses may wake: the owners, all on their lists, and
+    /// all on theirs.
+    pub fn woken_by(&self, addresses: &[usize]) -> Vec<usize> {
+        let mut woken = self.owners(addresses);
+        let mut seen = 0;
+        while let Some(&sleeper) = woken.get(seen) {
+            seen += 1;
+            for other in self.list(sleeper) {
+                if !woken.contains(&other) {
+                    woken.push(other);
+                }
+            }
+        }
+        woken.sort_unstable();
+        woken
+    }
+
     /// The most tries and calls that a turn can take on this board, if it reads and writes each of
     /// these addresses once at most and every other task is idle or asleep.
     ///
-    /// A try with n addresses is 5n + 5 calls if it commits, and at most 4n + 3 if it fails. A sleeper
-    /// with m addresses that it meets is m + 1 more.
+    /// A try with n addresses is 5n + 5 calls if it commits, and at most 4n + 3 if it fails. One fails for
+    /// each owner that it meets. Each sleeper that is woken, met or only on a list, is m + 1 more, where it
+    /// has m addresses.
     pub fn longest_turn(&self, addresses: &[usize]) -> Longest {
         let mut distinct = addresses.to_vec();
         distinct.sort_unstable();
         distinct.dedup();
         let n = distinct.len();
-        let met = self.owners(&distinct);
+        let met = self.owners(&distinct).len();
         let rising = |&task: &usize| self.tables().places[task][0] as usize + 1;
-        let calls = 5 * n + 5 + met.len() * (4 * n + 3) + met.iter().map(rising).sum::<usize>();
-        Longest { tries: met.len() + 1, calls }
+        let calls = 5 * n + 5 + met * (4 * n + 3) + self.woken_by(&distinct).iter().map(rising).sum::<usize>();
+        Longest { tries: met + 1, calls }
     }
 }

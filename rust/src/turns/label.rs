@@ -5,6 +5,8 @@ use crate::{Board, Phase, Refusal};
 
 /// A label: it reads, sleeps on what it read, and has something to say if that is news.
 ///
+/// Any number of labels sleep on one word, and none of them wakes another.
+///
 /// ```
 /// use chezumobari::{Board, End, Label, Refusal, Sizes};
 /// let mut board = Board::open(Sizes { words: 2, records: 2, tasks: 2 }, 1)?;

@@ -11,10 +11,11 @@ enum-known-phase c = search needs
 take-requires : tie.Need-take-requires
 take-requires c κs =
     let s = c .before .before .before .before .before .before .before .before in
-    record { words = now (s .args .words); entered = entered (s .pre) (c .before .before .if1 .taken) }
+    let p = c .before .before .before .before in
+    record { words = now (s .args .words); entered = entered (s .pre) (c .before .before .if1 .taken); own = s .pre .own; taking = p .phase .given .1 }
 
-goes-requires : tie.Need-goes-requires
-goes-requires c κs = search needs
+without-value-requires : tie.Need-without-value-requires
+without-value-requires c κs = search needs
 
 decide-requires : tie.Need-decide-requires
 decide-requires c κs = search needs
@@ -27,11 +28,11 @@ write-requires c κs =
     let s = c .before .before .before .before .before .before .before in
     record { records = now (s .args .records); places = now (s .args .places); entered = entered (s .pre) (c .before .if2 .taken) }
 
+goes-requires : tie.Need-goes-requires
+goes-requires c κs = search needs
+
 goes-requires-2 : tie.Need-goes-requires-2
 goes-requires-2 c κs = search needs
-
-goes-requires-3 : tie.Need-goes-requires-3
-goes-requires-3 c κs = search needs
 
 enum-known-phase-3 : tie.Need-enum-known-phase-3
 enum-known-phase-3 c = search needs
@@ -41,8 +42,8 @@ release-requires c κs =
     let s = c .before .before .before .before .before .before .before in
     record { words = now (s .args .words); places = now (s .args .places); entered = entered (s .pre) (c .before .if3 .taken) }
 
-goes-requires-4 : tie.Need-goes-requires-4
-goes-requires-4 c κs = search needs
+goes-requires-3 : tie.Need-goes-requires-3
+goes-requires-3 c κs = search needs
 
 end-requires : tie.Need-end-requires
 end-requires c κs = search needs
@@ -50,8 +51,8 @@ end-requires c κs = search needs
 enum-told : tie.Need-enum-told
 enum-told c = search needs
 
-goes-requires-5 : tie.Need-goes-requires-5
-goes-requires-5 c κs = search needs
+goes-requires-4 : tie.Need-goes-requires-4
+goes-requires-4 c κs = search needs
 
 enum-told-2 : tie.Need-enum-told-2
 enum-told-2 c = search needs
@@ -59,8 +60,8 @@ enum-told-2 c = search needs
 too-early-requires : tie.Need-too-early-requires
 too-early-requires c κs = search needs
 
-goes-requires-6 : tie.Need-goes-requires-6
-goes-requires-6 c κs = search needs
+goes-requires-5 : tie.Need-goes-requires-5
+goes-requires-5 c κs = search needs
 
 enum-told-3 : tie.Need-enum-told-3
 enum-told-3 c = search needs
@@ -68,8 +69,8 @@ enum-told-3 c = search needs
 too-early-requires-2 : tie.Need-too-early-requires-2
 too-early-requires-2 c κs = search needs
 
-goes-requires-7 : tie.Need-goes-requires-7
-goes-requires-7 c κs = search needs
+goes-requires-6 : tie.Need-goes-requires-6
+goes-requires-6 c κs = search needs
 
 same-length : tie.Need-same-length
 same-length c = search needs
@@ -79,9 +80,11 @@ same-length-2 c = search needs
 
 returns : tie.Need-returns
 returns c =
-    let p = c .before .before .before .before .before .before .before .before .before in
+    let k = c .before .before .before .before in
+    let b = k .before .before .before in
+    let p = b .before .before in
     let s = p .before .before .before .before in
-    rw (c .goes .ensures) (over-taking (s .pre) (p .phase .given .1) (c .before .before .before .before .before .before .before .if1 .taken) (c .before .before .before .before .take .ensures (now (s .args .words))))
+    rw (c .without-value .ensures) (over-taking (s .pre) (p .phase .given .1) (b .if1 .taken) (k .take .ensures (now (s .args .words)) (s .pre .among .ok)))
 
 returns-2 : tie.Need-returns-2
 returns-2 c =
@@ -95,12 +98,12 @@ returns-3 : tie.Need-returns-3
 returns-3 c =
     let p = c .before .before .before .before .before .before .before in
     let s = p .before .before .before .before in
-    rw (c .goes2 .ensures) (over-writing (s .pre) (p .phase2 .given .1) (c .before .before .before .before .before .if2 .taken) (c .before .before .before .write .ensures (now (s .args .records)) (now (s .args .places))))
+    rw (c .goes .ensures) (over-writing (s .pre) (p .phase2 .given .1) (c .before .before .before .before .before .if2 .taken) (c .before .before .before .write .ensures (now (s .args .records)) (now (s .args .places))))
 
 returns-4 : tie.Need-returns-4
 returns-4 c =
     let p = c .before .before .before in
-    rw (c .goes3 .ensures) (written (p .before .before .before .before .pre) (p .phase2 .given .1) (c .before .if2 .left))
+    rw (c .goes2 .ensures) (written (p .before .before .before .before .pre) (p .phase2 .given .1) (c .before .if2 .left))
 
 same-length-4 : tie.Need-same-length-4
 same-length-4 c = search needs
@@ -109,7 +112,7 @@ returns-5 : tie.Need-returns-5
 returns-5 c =
     let p = c .before .before .before .before .before .before .before in
     let s = p .before .before .before .before in
-    rw (c .goes4 .ensures) (over-releasing (s .pre) (p .phase3 .given .1) (c .before .before .before .before .before .if3 .taken) (c .before .before .before .release .ensures (now (s .args .words)) (now (s .args .places))))
+    rw (c .goes3 .ensures) (over-releasing (s .pre) (p .phase3 .given .1) (c .before .before .before .before .before .if3 .taken) (c .before .before .before .release .ensures (now (s .args .words)) (now (s .args .places))))
 
 returns-6 : tie.Need-returns-6
 returns-6 c =
@@ -117,13 +120,13 @@ returns-6 c =
     rw (c .end .ensures) (ended (p .before .before .before .before .pre) (p .phase3 .given .1) (c .before .if3 .left))
 
 returns-7 : tie.Need-returns-7
-returns-7 c = rw (c .goes5 .ensures) (asleep (c .before .before .before .before .before .pre) (c .before .enum-told .given .1))
+returns-7 c = rw (c .goes4 .ensures) (asleep (c .before .before .before .before .before .pre) (c .before .enum-told .given .1))
 
 returns-8 : tie.Need-returns-8
-returns-8 c = rw (c .goes6 .ensures, c .before .too-early .ensures) (open-refused (c .before .before .before .before .before .before .pre) (c .before .before .enum-told2 .given .1))
+returns-8 c = rw (c .goes5 .ensures, c .before .too-early .ensures) (open-refused (c .before .before .before .before .before .before .pre) (c .before .before .enum-told2 .given .1))
 
 returns-9 : tie.Need-returns-9
-returns-9 c = rw (c .goes7 .ensures, c .before .too-early2 .ensures) (idle-refused (c .before .before .before .before .before .before .pre) (c .before .before .enum-told3 .given .1))
+returns-9 c = rw (c .goes6 .ensures, c .before .too-early2 .ensures) (idle-refused (c .before .before .before .before .before .before .pre) (c .before .before .enum-told3 .given .1))
 
 pub advance-spec : {M : Type 1} → statement M
 advance-spec =
@@ -131,24 +134,24 @@ advance-spec =
     (tie.spec
     enum-known-phase
     take-requires
-    goes-requires
+    without-value-requires
     decide-requires
     enum-known-phase-2
     write-requires
+    goes-requires
     goes-requires-2
-    goes-requires-3
     enum-known-phase-3
     release-requires
-    goes-requires-4
+    goes-requires-3
     end-requires
     enum-told
-    goes-requires-5
+    goes-requires-4
     enum-told-2
     too-early-requires
-    goes-requires-6
+    goes-requires-5
     enum-told-3
     too-early-requires-2
-    goes-requires-7
+    goes-requires-6
     same-length
     same-length-2
     returns

@@ -22,6 +22,9 @@ wide-requires-2 c κs = search needs
 phase-of-requires : tie.Need-phase-of-requires
 phase-of-requires c κs = search needs
 
+array-read-joins : tie.Need-array-read-joins
+array-read-joins c = search needs
+
 returns : tie.Need-returns
 unfolding placeOf
 returns c = cc
@@ -36,4 +39,5 @@ place-of-spec =
     array-read-wide-2
     wide-requires-2
     phase-of-requires
+    array-read-joins
     returns)

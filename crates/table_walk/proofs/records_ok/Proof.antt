@@ -3,9 +3,8 @@ use Prim.Native.Nat.{ℕ, _+_, _≤_, _-_}
 use mathlib.Core.Path.{_≡_, refl, sym, ap, _∙_}
 use mathlib.Core.Logic.{inl, inr}
 use mathlib.Core.List.{List}
-use mathlib.Core.Bool.{Bool, true, false, and-true}
+use mathlib.Core.Bool.{Bool}
 use native.Mathlib.Omega.{arith}
-use native.Mathlib.Numerals.{add-one}
 use lib.ListN.{length}
 use lib.Dec.{eqb}
 use denote.Ref.{now}
@@ -13,20 +12,10 @@ use borrow.Author.Needs.{needs}
 use borrow.Author.Tests.{ne-eqb}
 use Rattle.memory.specs.Sound.{allBelow}
 use Rattle.table_walk.specs.Walk.{recordsOk}
-use Rattle.table_parts.proofs.Tests.{and-false, refused, passed}
+use Rattle.table_parts.proofs.Tests.{next-fault, next-good, refused, passed}
 use Rattle.table_walk.proofs.Answer.{answer}
 use Rattle.table_walk.proofs.records_ok.Statement.{statement}
 use Rattle.table_walk.proofs.records_ok.Tie as tie
-
--- one record more: a fault, or none
-module _ (p : ℕ → Bool) (i : ℕ) where
-  next-fault : p i ≡ false → allBelow (i + 1) p ≡ false
-  unfolding allBelow
-  next-fault h = rw add-one (and-false (allBelow i p) h)
-
-  next-good : p i ≡ true → allBelow (i + 1) p ≡ allBelow i p
-  unfolding allBelow
-  next-good h = rw (add-one, h) (and-true (allBelow i p))
 
 -- Before record r: none is at fault where none was counted.
 record Counted (records : List ℕ) (owned : List Bool) (faults r : ℕ) : Type 0 where

@@ -12,7 +12,7 @@ Inv-loop words₀ records₀ places₀ entries₀ m₀ counts₀ next₀ i₀ wo
 
 abbrev μ-loop : tie.MeasureT-loop
 μ-loop words₀ records₀ places₀ entries₀ m₀ counts₀ next₀ i₀ words records places entries m counts next i =
-    130400 - i
+    168800 - i
 
 pub play-all-spec : {M : Type 1} → statement M
 play-all-spec =

@@ -7,10 +7,10 @@ use Rattle.try_serial.proofs.ledger.wipe.Statement.{statement}
 use Rattle.try_serial.proofs.ledger.wipe.Tie as tie
 
 abbrev Inv-loop : tie.InvT-loop
-Inv-loop m₀ i₀ i-end m i = length m ≡ length m₀
+Inv-loop m₀ numbers i₀ m i = length m ≡ length m₀
 
 abbrev μ-loop : tie.MeasureT-loop
-μ-loop m₀ i₀ i-end m i = i-end - i
+μ-loop m₀ numbers i₀ m i = numbers - i
 
 pub wipe-spec : {M : Type 1} → statement M
 wipe-spec =

@@ -1,0 +1,2 @@
+-- What waking a sleeper asks and does, as the contracts cite it.
+pub mod Contract

@@ -1,0 +1,2 @@
+-- Laws of a phase's kind.
+pub mod OneKind
