@@ -1,6 +1,9 @@
 // The public calls: each asks first whether the table is sound, and has no `requires`. The requests have one call each, which lends
 // no more than it needs, and one for all of them, `ask`.
 // What a call answers and what every lent row holds afterwards is what its definition says (§5 to §7), in one equation.
+
+#![tactic(auto)]
+
 ghost use Rattle.std.specs.Prelude.{◌≡◌};
 ghost use Rattle.memory.specs.Pieces.{memory};
 ghost use Rattle.memory.specs.Calls.{call};

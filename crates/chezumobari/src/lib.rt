@@ -1,5 +1,8 @@
 // The calls under C names, for a game that links this memory. Each has the contract of the call that it passes on, and no `requires`.
 // A lent slice is a pointer and a length in elements.
+
+#![tactic(auto)]
+
 ghost use Rattle.std.specs.Prelude.{◌≡◌};
 ghost use Rattle.memory.specs.Pieces.{memory};
 ghost use Rattle.memory.specs.Numbers.{replied};

@@ -81,14 +81,14 @@ module _ (z : Sizes) (m : Memory) (t : ℕ) (ok : sound z m ≡ true) (lt : t < 
     ending : (u v : ℕ) → v < z.tasks → Ending m u (place m v) (place m₁ v) → Ending m u (place m v) (place m₂ v) → place m₁ v ≡ place m₂ v
     ending u v h x y = same_place z m₁ m₂ ok₁ ok₂ v h (x.count ∙ sym y.count) (x.phase ∙ sym y.phase) _ x.joins y.joins
 
-    ends_with : (u v : ℕ) → v < z.tasks → EndsWith m u v (place m v) (place m₁ v) → EndsWith m u v (place m v) (place m₂ v) → place m₁ v ≡ place m₂ v
-    ends_with u v h x y = ⊎_elim (λ l. ending u v h (x.0 l) (y.0 l)) (λ l. x.1 l ∙ sym (y.1 l)) (led? u v)
+    ends_alike : (u v : ℕ) → v < z.tasks → EndsWith m u v (place m v) (place m₁ v) → EndsWith m u v (place m v) (place m₂ v) → place m₁ v ≡ place m₂ v
+    ends_alike u v h x y = ⊎_elim (λ l. ending u v h (x.0 l) (y.0 l)) (λ l. x.1 l ∙ sym (y.1 l)) (led? u v)
 
     meet : (u : ℕ) (g : Goal) (i : ℕ) → Meets z m t u g i → Three z m t u g i m₁ → Three z m t u g i m₂ → m₁ ≡ m₂
     meet u g i M x y =
         ⊎_elim (λ b. ⊎_elim (λ v. changes (joining u i) (λ v h p q. p ∙ sym q) (x.0 b v) (y.0 b v))
         (λ v. changes (λ p q. p ∙ sym q) (λ v h p q. p ∙ sym q) (x.1 b v) (y.1 b v)) one?)
-        (λ b. changes (λ p q. p ∙ sym q) (ends_with u) (x.2 b) (y.2 b)) (both_sleep? u g)
+        (λ b. changes (λ p q. p ∙ sym q) (ends_alike u) (x.2 b) (y.2 b)) (both_sleep? u g)
       where
         one? : OneVersion z m t u i ⊎ (OneVersion z m t u i → ⊥)
         one? =

@@ -10,6 +10,7 @@ use lib.Seq.{get_or-set_same, get_or-set_other, drop-set-add, take-set-le}
 use native.Mathlib.Omega.{arith}
 use borrow.Author.Tests.{ltb-true}
 use Rattle.memory.specs.{Sizes, Open, Entry, Memory, memory, phase_of, place_of, place, bare, entry, entry_of, row_of_entry, entries, limit, run_start, set_word, set_place, set_entry, sound, lists_ok, joins_ok, join_ok, on_list, entry_ok, held, ST, AB, RD, call, ours, KeepsOthers, Given, refusal, rows_of, phase, Entered, Promised, Needed, call_answers, refusals-keep, calls_are_narrow, requests_leave, entries-stored, sound-lasts}
+use Rattle.memory.specs.Wrong.{valued}
 use Rattle.memory.specs.Thirteen.{with_places, mark, scribbled, start_says_1, refused_start_opens, start_writes, abort_does_nothing, read_scribbles, start_widens}
 use Rattle.memory.proofs.Tools.{if_cases}
 use Rattle.memory.proofs.Cases.{no_refusal}
@@ -113,7 +114,7 @@ module _ (O : Promised ours) where
       record {
         wrong = start_says_1;
         breaks = start_says_1_lem;
-        meets = for_start O call_answers _ (λ z m t.
+        meets = for_start O call_answers (λ z m t r. valued 1 r) (λ z m t.
             record {
               answers = λ ne. absurd (ne refl);
               kept = λ _. O refusals-keep z m (ST t);
@@ -131,7 +132,7 @@ module _ (O : Promised ours) where
       record {
         wrong = refused_start_opens;
         breaks = refused_start_opens_lem;
-        meets = starts O refusals-keep 1 _ (λ z m t e.
+        meets = starts O refusals-keep 1 (λ z m t x. set_place x t (bare 0 Open)) (λ z m t e.
             record {
               answers = λ _. O call_answers z m (ST t);
               kept = λ ne. absurd (ne refl);
@@ -155,7 +156,7 @@ module _ (O : Promised ours) where
       record {
         wrong = start_writes;
         breaks = start-writes;
-        meets = starts O calls_are_narrow 0 _ (λ z m t e.
+        meets = starts O calls_are_narrow 0 (λ z m t x. set_word x 0 1) (λ z m t e.
             record {
               answers = λ _. O call_answers z m (ST t);
               kept = λ _ b. no_refusal 0 refl _ b e;
@@ -173,7 +174,7 @@ module _ (O : Promised ours) where
       record {
         wrong = start_widens;
         breaks = start_widens_lem;
-        meets = starts O sound-lasts 0 _ (λ z m t e.
+        meets = starts O sound-lasts 0 (λ z m t x. with_places x (set x.places t (0 ∷ 1 ∷ 0 ∷ 0 ∷ 0 ∷ []))) (λ z m t e.
             record {
               answers = λ _. O call_answers z m (ST t);
               kept = λ _ b. no_refusal 0 refl _ b e;
@@ -195,7 +196,7 @@ module _ (O : Promised ours) where
       record {
         wrong = abort_does_nothing;
         breaks = abort_does_nothing_lem;
-        meets = aborts O requests_leave 0 _ (λ z m t e.
+        meets = aborts O requests_leave 0 (λ z m t x. m) (λ z m t e.
             record {
               answers = λ _. O call_answers z m (AB t);
               kept = λ _ _. refl;
@@ -213,7 +214,7 @@ module _ (O : Promised ours) where
       record {
         wrong = read_scribbles;
         breaks = read_scribbles_lem;
-        meets = reads O entries-stored 0 _ (λ a z m t e.
+        meets = reads O entries-stored 0 (λ z m t. scribbled z t) (λ a z m t e.
             let x = (call z m (RD t a)).after in
             record {
               answers = λ _. O call_answers z m (RD t a);

@@ -7,7 +7,7 @@ use lib.Dec.{eqb}
 use lib.ListN.{drop}
 use native.Mathlib.Omega.{arith}
 use borrow.Author.Tests.{ltb-true, eqb-true, eqb-false, not-true}
-use Rattle.memory.specs.{Sizes, Goal, Failed, Taking, Asleep, Writing, Releasing, Held, Version, Owner, Place, Memory, kind_of, position_of, is, held, entry, move, sound, Reply, reply, wakes, if◌then◌else◌, SP, call, ours, Given, refusal, rows_of, phase, Meets, Steps, Promised, Claim, Needed, call_answers, steps-leave, clashes_end}
+use Rattle.memory.specs.{place, Sizes, Goal, Failed, Taking, Asleep, Writing, Releasing, Held, Version, Owner, Place, Memory, kind_of, position_of, is, held, entry, move, sound, Reply, reply, wakes, if◌then◌else◌, SP, call, ours, Given, refusal, rows_of, phase, Meets, Steps, Promised, Claim, Needed, call_answers, steps-leave, clashes_end}
 use Rattle.memory.specs.Thirteen.{another, comes_to_another, writing_stays, owner_stays}
 use Rattle.memory.proofs.Tools.{and_0, and_1, if_cases}
 use Rattle.memory.proofs.Cases.{no_refusal}
@@ -62,7 +62,7 @@ module _ (O : Promised ours) where
       record {
         wrong = writing_stays;
         breaks = writing_stays_lem;
-        meets = steps O steps-leave 0 _ (λ z m t e. where_tested steps-leave z m t (is (Writing 0) (phase m t)) m (λ w.
+        meets = steps O steps-leave 0 (λ z m t x. if is (Writing 0) (place m t).phase then m else x) (λ z m t e. where_tested steps-leave z m t (is (Writing 0) (phase m t)) m (λ w.
             stays z m t e (eqb-true _ _ (and_0 (eqb (kind_of (phase m t)) 5) _ w))));
       }
     where
@@ -85,7 +85,7 @@ module _ (O : Promised ours) where
       record {
         wrong = owner_stays;
         breaks = owner_stays_lem;
-        meets = steps O clashes_end 0 _ (λ z m t e. where_tested clashes_end z m t (comes_to_another z m t) _ (λ c. met z m t e (comes z m t c)));
+        meets = steps O clashes_end 0 (λ z m t x. if comes_to_another z m t then move m t (Releasing Failed 0) else x) (λ z m t e. where_tested clashes_end z m t (comes_to_another z m t) _ (λ c. met z m t e (comes z m t c)));
       }
     where
       met : (z : Sizes) (m : Memory) (t : ℕ) → (call z m (SP t)).number ≡ 0 → (u : ℕ) × (g : Goal) × (i : ℕ) × Meets z m t u g i → Leaving clashes_end z m t (move m t (Releasing Failed 0))

@@ -1,4 +1,7 @@
 // Plays the session that standard input holds, and prints its text. Reading and writing are all that is done here.
+
+#![tactic(auto)]
+
 ghost use Rattle.std.specs.Prelude.{◌≡◌, length};
 ghost use Rattle.session_play.specs.Claims.{most_text};
 

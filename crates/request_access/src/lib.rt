@@ -1,4 +1,7 @@
 // How a Read or a Write of an address goes on, on a table known to be sound: its entry found or made, or the number that refuses it.
+
+#![tactic(auto)]
+
 ghost use Rattle.std.specs.Prelude.{◌≡◌, true, map, ◌<◌, take, drop};
 ghost use Rattle.memory.specs.Pieces.{memory, most_words, entry_of, run_start};
 ghost use Rattle.memory.specs.Sound.{sound};

@@ -1,4 +1,7 @@
 // Any request of a task as one value, on a table known to be sound: each goes to the function of its name.
+
+#![tactic(auto)]
+
 ghost use Rattle.std.specs.Prelude.{◌≡◌, true};
 ghost use Rattle.memory.specs.Pieces.{memory};
 ghost use Rattle.memory.specs.Sound.{sound};

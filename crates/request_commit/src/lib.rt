@@ -1,4 +1,7 @@
 // The requests from which on steps take a task's entries, Commit and Wait, on a table known to be sound.
+
+#![tactic(auto)]
+
 ghost use Rattle.std.specs.Prelude.{◌≡◌, true};
 ghost use Rattle.memory.specs.Pieces.{memory};
 ghost use Rattle.memory.specs.Sound.{sound};

@@ -1,4 +1,7 @@
 // A new address of a task, on a table known to be sound: its entry made, or the number that refuses it.
+
+#![tactic(auto)]
+
 ghost use Rattle.std.specs.Prelude.{◌≡◌, true, map, ◌<◌, ◌≤◌, length, take, drop};
 ghost use Rattle.memory.specs.Pieces as spec;
 ghost use Rattle.memory.specs.Pieces.{memory, entry_of, run_start};
@@ -9,7 +12,7 @@ ghost use Rattle.request_fresh.specs.Contract.{found_at, entry_beside, overtaken
 use memory::{Entry, EntryRow, Place, PlaceRow, Seen, Sizes};
 
 // What a search through a task's entries finds.
-#[derive(Drop)]
+#[derive(Clone, Copy)]
 pub enum Found {
     Nothing,
     First(Entry),
@@ -81,7 +84,7 @@ fn fresh(address: u32, seen: Seen, beside: Found) -> Entry
 }
 
 // How a Read or a Write of an address goes on.
-#[derive(Drop)]
+#[derive(Clone, Copy)]
 pub enum Access {
     // with this number, and nothing is done
     Refused(u32),

@@ -1,4 +1,7 @@
 // How a task is moved to another phase, and the requests Start and Abort, on a table known to be sound.
+
+#![tactic(auto)]
+
 ghost use Rattle.std.specs.Prelude.{◌≡◌, true, List, ℕ, ◌<◌, length};
 ghost use Rattle.memory.specs.Pieces.{memory, position_of, ended, set_place};
 ghost use Rattle.memory.specs.Sound.{sound};

@@ -1,4 +1,7 @@
 // The request Read, on a table known to be sound.
+
+#![tactic(auto)]
+
 ghost use Rattle.std.specs.Prelude.{◌≡◌, true};
 ghost use Rattle.memory.specs.Pieces.{Memory, memory};
 ghost use Rattle.memory.specs.Sound.{sound};

@@ -1,4 +1,7 @@
 // The request Write, on a table known to be sound.
+
+#![tactic(auto)]
+
 ghost use Rattle.std.specs.Prelude.{◌≡◌, true, List, ℕ, suc, ◌<◌, eqb};
 ghost use Rattle.memory.specs.Pieces.{memory, most_words, top_version};
 ghost use Rattle.memory.specs.Sound.{sound};

@@ -1,4 +1,7 @@
 // What a record of a session asks of the memory: a board of its sizes, or the request of its kind.
+
+#![tactic(auto)]
+
 ghost use Rattle.std.specs.Prelude.{◌≡◌, ◌<◌};
 ghost use Rattle.memory.specs.Pieces.{memory};
 ghost use Rattle.memory.specs.Numbers.{replied};
@@ -9,7 +12,7 @@ use memory::{Answer, Call, EntryRow, PlaceRow, Sizes};
 use session_marks::Kind;
 
 // §11.2: what a record asks: that a board is opened, or a request of a task.
-#[derive(Drop)]
+#[derive(Clone, Copy)]
 pub enum Asked {
     Board,
     Request(Call),

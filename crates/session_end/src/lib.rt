@@ -1,4 +1,7 @@
 // The end of a session's run (§12.4, §12.5): the numbers that stop the player, and the line of a record that is refused.
+
+#![tactic(auto)]
+
 ghost use Rattle.std.specs.Prelude.{◌≡◌, ◌<◌};
 ghost use Rattle.memory.specs.Pieces.{Memory};
 ghost use Rattle.session_end.specs.Run as spec;
@@ -7,7 +10,7 @@ ghost use Rattle.session_end.specs.Contract.{Runs, line_room};
 use session_split::Split;
 
 // The next place in the buffer after the lines of a run, and whether no record stopped the player.
-#[derive(Drop)]
+#[derive(Clone, Copy)]
 pub struct Ran {
     pub at: usize,
     pub whole: bool,

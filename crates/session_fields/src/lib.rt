@@ -1,4 +1,7 @@
 // The numbers in the body of a record of a session file (§11.2), by the table of widths.
+
+#![tactic(auto)]
+
 ghost use Rattle.std.specs.Prelude.{◌≡◌, ◌^◌, ◌<◌, ◌≤◌, get_or};
 ghost use Rattle.session_fields.specs.Fields as spec;
 

@@ -1,4 +1,7 @@
 // The kinds of the records of a session file, and the marks that they begin with (§11.2).
+
+#![tactic(auto)]
+
 ghost use Rattle.std.specs.Prelude.{◌≡◌};
 ghost use Rattle.session_marks.specs.Marks as spec;
 
@@ -22,7 +25,7 @@ pub const READ_MARK: [u8; 2] = [b'R', b'D'];
 pub const WRITE_MARK: [u8; 2] = [b'W', b'R'];
 
 // What a record asks for, by its mark.
-#[derive(Drop)]
+#[derive(Clone, Copy)]
 pub enum Kind {
     Open,
     Start,
@@ -35,7 +38,7 @@ pub enum Kind {
 }
 
 // What the two bytes where a mark should stand are.
-#[derive(Drop)]
+#[derive(Clone, Copy)]
 pub enum Marked {
     Known(Kind),
     Unknown,

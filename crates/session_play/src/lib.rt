@@ -1,4 +1,7 @@
 // Plays a session on lent tables: they are looked at, and the text goes into a lent buffer (§12).
+
+#![tactic(auto)]
+
 ghost use Rattle.std.specs.Prelude.{◌≡◌};
 ghost use Rattle.memory.specs.Pieces.{memory};
 ghost use Rattle.session_play.specs.Contract.{playing};
@@ -9,7 +12,7 @@ use memory::{EntryRow, PlaceRow};
 pub const MOST_TEXT: usize = 518804;
 
 // How many bytes the whole text has; or a lent table is too short, and nothing was written.
-#[derive(Drop)]
+#[derive(Clone, Copy)]
 pub enum Played {
     Whole(usize),
     TooShort,

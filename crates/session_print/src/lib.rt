@@ -1,4 +1,7 @@
 // The whole text of a session (§12), into a lent buffer: the lines of its records, and those of the board.
+
+#![tactic(auto)]
+
 ghost use Rattle.std.specs.Prelude.{◌≡◌, ◌<◌, ◌≤◌, length};
 ghost use Rattle.memory.specs.Pieces.{memory};
 ghost use Rattle.session_split.specs.Session.{most_bytes};

@@ -1,4 +1,7 @@
 // The run of a session's records, and the lines that they print (§12), into a lent buffer.
+
+#![tactic(auto)]
+
 ghost use Rattle.std.specs.Prelude.{◌≡◌, ◌≤◌, length};
 ghost use Rattle.memory.specs.Pieces.{memory};
 ghost use Rattle.session_split.specs.Session.{most_bytes};

@@ -1,4 +1,7 @@
 // A session file (§11), split into its records: what stands next in what is left of it, and its body.
+
+#![tactic(auto)]
+
 ghost use Rattle.std.specs.Prelude.{◌≡◌};
 ghost use Rattle.session_split.specs.Session as spec;
 
@@ -17,7 +20,7 @@ pub const MISPLACED: u32 = 12;
 pub const TOO_LONG: u32 = 14;
 
 // What splitting a record off answers: its kind, the number that refuses it, or that the session ends here.
-#[derive(Drop)]
+#[derive(Clone, Copy)]
 pub enum Split {
     Record(Kind),
     Refused(u32),

@@ -1,4 +1,7 @@
 // Text into a lent buffer: bytes, decimal numbers and the two kinds of line that a played session prints.
+
+#![tactic(auto)]
+
 ghost use Rattle.std.specs.Prelude.{◌<◌, [], ◌∷◌};
 ghost use Rattle.session_text.specs.Text.{Put, digits, line, word_line};
 

@@ -1,12 +1,15 @@
 // Reads a schedule in comma-separated text from standard input and prints the session, or the other way round (§18). On a refusal it
 // prints nothing, and says on standard error how many lines were good and the number. Reading and writing are all that is done here.
+
+#![tactic(auto)]
+
 ghost use Rattle.sheet_text.specs.Read.{Small};
 
 use libc::{STDERR_FILENO, STDIN_FILENO, STDOUT_FILENO};
 use sheet_text::{Answer, Reader};
 
 // A text so far, and whether more of it may follow.
-#[derive(Drop)]
+#[derive(Clone, Copy)]
 struct Fed {
     reader: Reader,
     more: bool,

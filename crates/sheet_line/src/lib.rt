@@ -1,4 +1,7 @@
 // A line of a comma-separated schedule, field by field (§18.5 to §18.8): its content, the bytes that it stands for, and its number.
+
+#![tactic(auto)]
+
 ghost use Rattle.std.specs.Prelude.{◌≡◌, true, ◌-◌, ◌<◌, ◌≤◌};
 ghost use Rattle.session_text.specs.Text.{Put};
 ghost use Rattle.sheet_text.specs.Line as spec;
@@ -13,7 +16,7 @@ const TOO_LARGE: u64 = 4294967296;
 const MOST_FIELDS: usize = 6;
 
 // A line with a field ended, and the place behind the bytes of the session that were put for the field.
-#[derive(Drop)]
+#[derive(Clone, Copy)]
 pub struct Ended {
     pub line: Line,
     pub next: usize,

@@ -1,4 +1,7 @@
 // A schedule in comma-separated text, read into the bytes of a session (§18): byte by byte, or a whole text at once.
+
+#![tactic(auto)]
+
 ghost use Rattle.std.specs.Prelude.{◌≡◌, ◌<◌};
 ghost use Rattle.session_text.specs.Text.{stored};
 ghost use Rattle.sheet_text.specs.Read as spec;

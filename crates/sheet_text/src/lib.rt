@@ -1,5 +1,8 @@
 // What a schedule in comma-separated text is (§18): what is known of a line and of a text so far, and what is answered. Its
 // definitions and what is promised of them stand in specs/; the code that meets them in the other crates of this group.
+
+#![tactic(auto)]
+
 ghost use Rattle.std.specs.Prelude.{◌≡◌};
 ghost use Rattle.sheet_text.specs.Read.{answer};
 
@@ -29,7 +32,7 @@ pub const NEWLINE: u8 = b'\n';
 
 // Where the next byte stands: at the beginning of a field, in a bare one, between quotes, behind a quote that stood there, or behind
 // a CR outside quotes.
-#[derive(Drop)]
+#[derive(Clone, Copy)]
 pub enum Spot {
     Fresh,
     Bare,
@@ -40,7 +43,7 @@ pub enum Spot {
 
 // What a byte is there: a byte of the field's content, or beside it, and where the next one stands then; the end of the field, or of
 // the line too; or one that may not stand there.
-#[derive(Drop)]
+#[derive(Clone, Copy)]
 pub enum Turn {
     Content(Spot),
     Beside(Spot),
@@ -50,7 +53,7 @@ pub enum Turn {
 }
 
 // The content of a field so far, as a mark: more than two letters are none.
-#[derive(Drop)]
+#[derive(Clone, Copy)]
 pub enum Letters {
     NoLetter,
     One(u8),
@@ -59,7 +62,7 @@ pub enum Letters {
 }
 
 // The same content as a number: nothing yet, a number that some field has room for, or something else.
-#[derive(Drop)]
+#[derive(Clone, Copy)]
 pub enum Digits {
     NoDigit,
     Number(u32),
@@ -69,7 +72,7 @@ pub enum Digits {
 // A line so far: how many fields have ended, of which six stand for more; the content of the field that is read; the kind that the first
 // field named; and whether a field that has ended is not as the kind asks. The small ones stand together, so that a reader, which is
 // copied at each byte, has few bytes that mean nothing.
-#[derive(Drop)]
+#[derive(Clone, Copy)]
 pub struct Line {
     pub fields: usize,
     pub digits: Digits,
@@ -80,7 +83,7 @@ pub struct Line {
 
 // A text so far: the line that is read, how many bytes of the session there are, how many lines were good, 0 or the number that refuses
 // the text, and where the next byte stands.
-#[derive(Drop)]
+#[derive(Clone, Copy)]
 pub struct Reader {
     pub line: Line,
     pub length: usize,
@@ -91,7 +94,7 @@ pub struct Reader {
 
 // What reading and writing answer: 0 or a number that refuses; with 0 how many bytes were written, else 0; and how many lines, or
 // records, were good.
-#[derive(Drop)]
+#[derive(Clone, Copy)]
 pub struct Answer {
     pub number: u32,
     pub length: usize,

@@ -1,4 +1,7 @@
 // What a byte of a comma-separated text is where it stands (§18.2 to §18.4): a field's content, a field's or a line's end, or astray.
+
+#![tactic(auto)]
+
 ghost use Rattle.std.specs.Prelude.{◌≡◌, true};
 ghost use Rattle.sheet_text.specs.Turn as spec;
 ghost use Rattle.sheet_turn.specs.Contract.{is_open};

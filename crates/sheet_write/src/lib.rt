@@ -1,4 +1,7 @@
 // A session written as comma-separated text (§18.10), into a lent buffer.
+
+#![tactic(auto)]
+
 ghost use Rattle.std.specs.Prelude.{◌≡◌, ◌<◌, length, take};
 ghost use Rattle.session_marks.specs.Marks.{mark};
 ghost use Rattle.session_split.specs.Session as split;
@@ -12,7 +15,7 @@ use session_split::Split;
 use sheet_text::{Answer, COMMA};
 
 // How the records of a session ended, after so many of them and so many bytes of text.
-#[derive(Drop)]
+#[derive(Clone, Copy)]
 pub struct Lines {
     pub end: Split,
     pub length: usize,

@@ -1,4 +1,7 @@
 // A step over one entry: its word is written, its record is released. Each says the task's next phase.
+
+#![tactic(auto)]
+
 ghost use Rattle.std.specs.Prelude.{◌≡◌, [], ◌+◌, ◌<◌, length, get_or};
 ghost use Rattle.memory.specs.Pieces.{entry_of, run_start, most_tasks};
 ghost use Rattle.step_entry.specs.Contract.{MayWrite, Wrote, MayRelease, Released, version_by};

@@ -1,4 +1,7 @@
 // A task comes to a record that another task owns (§7.7, §7.8): it joins a sleeper, or fails, and the owner may end.
+
+#![tactic(auto)]
+
 ghost use Rattle.std.specs.Prelude.{◌≡◌};
 ghost use Rattle.memory.specs.Step as spec;
 ghost use Rattle.step_wake.specs.Contract.{MayWake};
@@ -7,7 +10,7 @@ ghost use Rattle.step_meet.specs.Contract.{Clashed, Decides, MayLook, Seen, MayC
 use memory::{Entry, EntryRow, Goal, Outcome, Phase, Place, PlaceRow, Sizes};
 
 // What becomes of one that comes to another's record: it joins a sleeper; it fails alone; or it fails and the owner is met.
-#[derive(Drop)]
+#[derive(Clone, Copy)]
 enum Meeting {
     Joins,
     Differs,

@@ -1,4 +1,7 @@
 // The step of a task (§7) by its phase, with the place by value: over an entry, or the step that ends a phase.
+
+#![tactic(auto)]
+
 ghost use Rattle.std.specs.Prelude.{◌≡◌};
 ghost use Rattle.memory.specs.Step.{end_number};
 ghost use Rattle.step_phase.specs.Contract.{Ready, Stepped, Decided, goes_to, ends_by};
@@ -6,7 +9,7 @@ ghost use Rattle.step_phase.specs.Contract.{Ready, Stepped, Decided, goes_to, en
 use memory::{Answer, EntryRow, Goal, Outcome, Phase, Place, PlaceRow, Sizes};
 
 // A task's place after a step, and what the step answers.
-#[derive(Drop)]
+#[derive(Clone, Copy)]
 pub struct Moved {
     pub place: Place,
     pub answer: Answer,

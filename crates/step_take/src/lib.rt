@@ -1,4 +1,7 @@
 // A step over one entry whose record is to be taken: it is taken, or it is another's. It says the task's place afterwards.
+
+#![tactic(auto)]
+
 ghost use Rattle.step_take.specs.Contract.{MayTake, Took};
 
 use memory::{EntryRow, Goal, Held, Outcome, Phase, Place, PlaceRow, Sizes};

@@ -1,4 +1,7 @@
 // A sleeper is woken, with all who end with it (§7.17).
+
+#![tactic(auto)]
+
 ghost use Rattle.std.specs.Prelude.{◌≡◌, ◌<◌, ◌≤◌, length};
 ghost use Rattle.memory.specs.Pieces.{most_tasks};
 ghost use Rattle.memory.specs.Step as spec;

@@ -1,4 +1,7 @@
 // Where lists lead (§2.15): for each task, the set of those from whose lists a way leads to it.
+
+#![tactic(auto)]
+
 ghost use Rattle.std.specs.Prelude.{◌≡◌, ℕ, ◌<◌, ◌≤◌, length, get_or};
 ghost use Rattle.memory.specs.Pieces.{most_tasks};
 ghost use Rattle.memory.specs.Lists.{has, leads};

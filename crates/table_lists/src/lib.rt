@@ -1,4 +1,7 @@
 // The lists of a table (§10.13, §10.14): only sleepers have one, those on it may be there, and no way leads back to its start.
+
+#![tactic(auto)]
+
 ghost use Rattle.std.specs.Prelude.{◌≡◌, not, [], ◌≤◌, length, get_or};
 ghost use Rattle.memory.specs.Pieces.{memory, place_of, most_tasks};
 ghost use Rattle.memory.specs.Lists.{has, leads};

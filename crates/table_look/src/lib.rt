@@ -1,4 +1,7 @@
 // The look-up of an address, on a table known to be sound.
+
+#![tactic(auto)]
+
 ghost use Rattle.std.specs.Prelude.{◌≡◌, map, true, ◌<◌, ◌≤◌, ◌%◌, length, take};
 ghost use Rattle.memory.specs.Pieces.{memory, entry_of, committed};
 ghost use Rattle.memory.specs.Logical.{index_on, shows, owned_at, logical};

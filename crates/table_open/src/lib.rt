@@ -1,4 +1,7 @@
 // The opening of a board (§5.1 to §5.4).
+
+#![tactic(auto)]
+
 ghost use Rattle.std.specs.Prelude.{◌≡◌, length, replicate};
 ghost use Rattle.memory.specs.Pieces.{memory, ended, row_of, row_of_entry};
 ghost use Rattle.memory.specs.Logical.{blank};

@@ -1,4 +1,7 @@
 // An entry held against those before it on its record, and a record marked as owned: two turns of the walk over the tables, by themselves.
+
+#![tactic(auto)]
+
 ghost use Rattle.std.specs.Prelude.{◌⊎◌, ◌-◌, ◌≤◌, ◌<◌, length};
 ghost use Rattle.memory.specs.Pieces.{most_entries, most_tasks};
 ghost use Rattle.table_pairs.specs.Pairs.{New, Met, Marked};
@@ -7,7 +10,7 @@ use memory::EntryRow;
 
 // What was found: a fault, or none; the greatest address of the entries that another one of the task has followed on their record; and
 // how many of the entries before have yet to be compared, address by address.
-#[derive(Drop)]
+#[derive(Clone, Copy)]
 pub struct Against {
     pub fault: bool,
     pub top: u32,

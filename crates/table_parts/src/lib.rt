@@ -1,4 +1,7 @@
 // The parts of a sound table (§10), each by itself: sizes, lent lengths, an entry, two entries, what a record holds.
+
+#![tactic(auto)]
+
 ghost use Rattle.std.specs.Prelude.{◌≡◌, ◌%◌, ◌<◌, ◌≤◌, true};
 ghost use Rattle.memory.specs.Pieces.{memory, most_words, most_records, held_of, entry_of};
 ghost use Rattle.memory.specs.Sound.{within, sizes_ok, lengths_ok, entry_ok};

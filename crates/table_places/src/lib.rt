@@ -1,4 +1,7 @@
 // A task's row by itself (§10): whether it is right, and the first entry by which its task may own a record.
+
+#![tactic(auto)]
+
 ghost use Rattle.std.specs.Prelude.{◌≡◌, true};
 ghost use Rattle.memory.specs.Pieces.{place_of};
 ghost use Rattle.memory.specs.Sound.{place_ok};

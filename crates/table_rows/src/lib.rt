@@ -1,4 +1,7 @@
 // The pieces as they stand in the lent tables: a record's number, a task's row, an entry's row, each taken apart and put together.
+
+#![tactic(auto)]
+
 ghost use Rattle.std.specs.Prelude.{◌≡◌, [], ◌<◌, ◌≤◌, ◌%◌, length, get_or};
 ghost use Rattle.memory.specs.Pieces as spec;
 ghost use Rattle.memory.specs.Step.{fails, wakes};

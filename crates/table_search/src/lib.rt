@@ -1,4 +1,7 @@
 // The search for an entry in a run: by its address, or by its record.
+
+#![tactic(auto)]
+
 ghost use Rattle.std.specs.Prelude.{◌≡◌, map, ◌<◌, ◌≤◌, length, take};
 ghost use Rattle.memory.specs.Pieces.{entry_of};
 ghost use Rattle.memory.specs.Logical.{index_of, index_on};

@@ -1,4 +1,7 @@
 // The look-up of an address for anybody, on a table known to be sound: the part of the public call behind its check.
+
+#![tactic(auto)]
+
 ghost use Rattle.std.specs.Prelude.{◌≡◌, true};
 ghost use Rattle.memory.specs.Pieces.{memory};
 ghost use Rattle.memory.specs.Requests as spec;

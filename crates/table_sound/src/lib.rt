@@ -1,4 +1,7 @@
 // The check that a table is sound, which every request makes first: the sizes and the lengths, and the walk over the tables in room of its own.
+
+#![tactic(auto)]
+
 ghost use Rattle.std.specs.Prelude.{◌≡◌, []};
 ghost use Rattle.memory.specs.Pieces.{memory};
 ghost use Rattle.memory.specs.Sound.{sound};

@@ -1,4 +1,7 @@
 // The walk over the tables, part by part: each task's row and entries, and then the records.
+
+#![tactic(auto)]
+
 ghost use Rattle.std.specs.Prelude.{◌≡◌, [], ◌≤◌, length};
 ghost use Rattle.memory.specs.Pieces.{memory, most_records};
 ghost use Rattle.table_walk.specs.Walk.{Fit, Room, tables_ok, records_ok};

@@ -1,4 +1,7 @@
 // A task's descriptor: its place and its run of entries, stored.
+
+#![tactic(auto)]
+
 ghost use Rattle.std.specs.Prelude.{◌≡◌, List, [], ℕ, ◌<◌, ◌≤◌, length, get_or, set};
 ghost use Rattle.memory.specs.Pieces.{if◌then◌else◌, memory, most_words, top_version, position_of, row_of, entry_of, row_of_entry};
 ghost use Rattle.memory.specs.Requests as spec;

@@ -1,4 +1,7 @@
 // Who may ask: a task's place where its phase is the one that a request needs, or the number that refuses it.
+
+#![tactic(auto)]
+
 ghost use Rattle.std.specs.Prelude.{◌≡◌, true, List, ℕ, length};
 ghost use Rattle.memory.specs.Pieces.{memory};
 ghost use Rattle.memory.specs.Sound.{sound};
@@ -7,14 +10,14 @@ ghost use Rattle.task_permit.specs.Contract.{allowed_by, Permits};
 use memory::{Phase, Place, PlaceRow, Sizes};
 
 // The phase that a request needs.
-#[derive(Drop)]
+#[derive(Clone, Copy)]
 pub enum Needs {
     Idle,
     Open,
 }
 
 // The place of a task that may ask, or the number that refuses it.
-#[derive(Drop)]
+#[derive(Clone, Copy)]
 pub enum Permit {
     Refused(u32),
     Granted(Place),

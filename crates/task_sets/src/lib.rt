@@ -1,4 +1,7 @@
 // Sets of tasks, each as one number (§2.13): whether a task is in one, a set with a task more, a set without those of another.
+
+#![tactic(auto)]
+
 ghost use Rattle.std.specs.Prelude.{◌≡◌, ◌&&◌, ◌||◌, not, ℕ, ◌<◌, eqb};
 ghost use Rattle.memory.specs.Pieces.{most_tasks};
 ghost use Rattle.memory.specs.Lists as spec;

@@ -1,5 +1,8 @@
 // What the programs that try the memory share: any call, on parts of the tables that are lent as long as it is told, and whether two
 // answers are one.
+
+#![tactic(auto)]
+
 pub mod same;
 
 use memory::{Answer, EntryRow, Looked, PlaceRow, Sizes};

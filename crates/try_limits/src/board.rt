@@ -100,7 +100,7 @@ fn differing(rows: &[u32], first: usize, count: usize) -> u32 {
 }
 
 // How many numbers changed, and how many of them in a task's place.
-#[derive(Drop)]
+#[derive(Clone, Copy)]
 pub struct Changed {
     pub all: u32,
     pub own: u32,

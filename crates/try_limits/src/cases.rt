@@ -8,7 +8,7 @@ use std::num::{wrapping_add_u32, wrapping_sub_usize};
 use try_serial::asked::{AnyCall, Lent};
 
 // What a call answered, and what it changed.
-#[derive(Drop)]
+#[derive(Clone, Copy)]
 struct Seen {
     looked: Looked,
     changed: Changed,

@@ -8,7 +8,7 @@ const REMARK: u8 = b'#';
 
 // The numbers follow the spaces before them, so the first of the four places is not used. The sentence stands from `from` to `end`
 // in the script, once the line has ended.
-#[derive(Drop)]
+#[derive(Clone, Copy)]
 pub struct Line {
     pub mark: u32,
     pub numbers: [u32; 4],

@@ -1,5 +1,8 @@
 // The limits of §2 to §10, tried one by one: sizes, lent lengths, the 64 entries, every refusal with what it leaves behind, which
 // number wins where two apply, and a table that is unsound by each clause. The cases are the script on standard input.
+
+#![tactic(auto)]
+
 mod board;
 mod cases;
 mod line;

@@ -51,7 +51,7 @@ const SH: u32 = 256 * b'S' as u32 + b'H' as u32;
 // A task reads the addresses 0 to 63.
 const FL: u32 = 256 * b'F' as u32 + b'L' as u32;
 
-#[derive(Drop)]
+#[derive(Clone, Copy)]
 pub enum Act {
     Call(AnyCall),
     Lend,

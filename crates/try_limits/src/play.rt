@@ -28,7 +28,7 @@ fn obey(line: Line, lent: Lent, rows: &mut [u32]) {
 }
 
 // The line that is being read, and what is lent.
-#[derive(Drop)]
+#[derive(Clone, Copy)]
 struct Reading {
     line: Line,
     lent: Lent,

@@ -16,7 +16,7 @@ const FIRST: u32 = 4;
 
 // A board to play on: one in `odd` calls is any call at all, one in `ends` requests of an open transaction ends it, `waits` of eight
 // ends are a Wait, one in `writes` uses of an address is a Write, and addresses are drawn below `drawn`.
-#[derive(Drop)]
+#[derive(Clone, Copy)]
 pub struct Board {
     pub lent: Lent,
     pub first: u32,

@@ -32,7 +32,7 @@ const USE: u32 = 15;
 const UNFIT: u32 = 16;
 
 // A turn: a call's index in a schedule, and the schedule's board.
-#[derive(Drop)]
+#[derive(Clone, Copy)]
 pub struct Turn {
     pub schedule: usize,
     pub index: usize,
@@ -40,7 +40,7 @@ pub struct Turn {
 }
 
 // A call, how the tables are lent to it, and how the board's own are.
-#[derive(Drop)]
+#[derive(Clone, Copy)]
 pub struct Drawn {
     pub call: AnyCall,
     pub lent: Lent,
@@ -75,7 +75,7 @@ pub fn after(turn: Turn) -> Turn {
 }
 
 // What a call may name.
-#[derive(Drop)]
+#[derive(Clone, Copy)]
 struct Named {
     task: usize,
     address: usize,

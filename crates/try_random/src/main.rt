@@ -1,5 +1,8 @@
 // An independent second machine beside the memory, on random schedules. After every call the number and the values that both answered
 // are compared, and then the logical value and version of every address of the board.
+
+#![tactic(auto)]
+
 mod boards;
 mod both;
 mod dice;

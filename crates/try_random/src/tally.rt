@@ -4,7 +4,7 @@ use std::num::wrapping_add_u32;
 use table_rows::wide;
 use try_serial::asked::narrow;
 
-#[derive(Drop)]
+#[derive(Clone, Copy)]
 pub struct Tally {
     pub schedules: u32,
     pub calls: u32,

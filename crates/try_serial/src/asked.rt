@@ -3,7 +3,7 @@
 use memory::{Call, Sizes};
 
 // An opening with its first version, a look-up of an address, or a request.
-#[derive(Drop)]
+#[derive(Clone, Copy)]
 pub enum AnyCall {
     Open(u32),
     Look(usize),
@@ -11,7 +11,7 @@ pub enum AnyCall {
 }
 
 // The sizes of a board, and how many places of each table are lent.
-#[derive(Drop)]
+#[derive(Clone, Copy)]
 pub struct Lent {
     pub sizes: Sizes,
     pub words: usize,

@@ -1,5 +1,8 @@
 // A second machine: §5 to §7 once more, over structures of its own and with none of the memory's code.
 // It keeps the serial board itself. It is asked as the memory is, by a call and by how the tables would be lent to it.
+
+#![tactic(auto)]
+
 pub mod asked;
 pub mod ledger;
 pub mod limits;

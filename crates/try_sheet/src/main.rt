@@ -1,6 +1,9 @@
 // Asks the reading and the writing of comma-separated text (§18.9, §18.10) for each case on standard input, in a buffer of the room
 // that the case says. Prints what was answered, and the whole buffer, so that a byte that was written by mistake shows. A case is `r` or
 // `w`, the room and the length of what is given in four bytes each, the lowest first, and what is given.
+
+#![tactic(auto)]
+
 ghost use Rattle.std.specs.Prelude.{◌<◌};
 
 use libc::{STDIN_FILENO, STDOUT_FILENO};
