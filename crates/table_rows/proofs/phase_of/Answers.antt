@@ -7,68 +7,53 @@ use native.Mathlib.Omega.{arith}
 use lib.ListN.{get_or-eq_default}
 use Rattle.memory.specs.declared.Phase.TheVariants.{Idle}
 use Rattle.memory.specs.Pieces.{phase_of, phases_at}
-use Rattle.table_rows.proofs.phase_of.Statement.{statement}
-use Rattle.table_rows.proofs.phase_of.Tie as tie
+use Rattle.table_rows.proofs.phase_of.Goals as goal
 
-returns : tie.Need-returns
+pub returns-in-1 : goal.returns-in-1
 unfolding phase_of
-returns c = rw c.match.keys1
+returns-in-1 c = rw c.in-1.is
 
-returns_2 : tie.Need-returns-2
+pub returns-in-2 : goal.returns-in-2
 unfolding phase_of
-returns_2 c = rw c.match.keys2
+returns-in-2 c = rw c.in-2.is
 
-returns_3 : tie.Need-returns-3
+pub returns-in-3 : goal.returns-in-3
 unfolding phase_of
-returns_3 c = rw c.match.keys3
+returns-in-3 c = rw c.in-3.is
 
-returns_4 : tie.Need-returns-4
+pub returns-in-4 : goal.returns-in-4
 unfolding phase_of
-returns_4 c = rw c.match.keys4
+returns-in-4 c = rw c.in-4.is
 
-returns_5 : tie.Need-returns-5
+pub returns-in-5 : goal.returns-in-5
 unfolding phase_of
-returns_5 c = rw c.match.keys5
+returns-in-5 c = rw c.in-5.is
 
-returns_6 : tie.Need-returns-6
+pub returns-in-6 : goal.returns-in-6
 unfolding phase_of
-returns_6 c = rw c.match.keys6
+returns-in-6 c = rw c.in-6.is
 
-returns_7 : tie.Need-returns-7
+pub returns-in-7 : goal.returns-in-7
 unfolding phase_of
-returns_7 c = rw c.match.keys7
+returns-in-7 c = rw c.in-7.is
 
-returns_8 : tie.Need-returns-8
+pub returns-in-8 : goal.returns-in-8
 unfolding phase_of
-returns_8 c = rw c.match.keys8
+returns-in-8 c = rw c.in-8.is
 
 -- a number above n that is none of the next four
 four_more : (n x : ℕ) → n < x → (x ≡ n + 1 → ⊥) → (x ≡ n + 2 → ⊥) → (x ≡ n + 3 → ⊥) → (x ≡ n + 4 → ⊥) → n + 4 < x
 four_more n x h a b c d = omega arith
 
-returns_9 : tie.Need-returns-9
+pub returns-in_default : goal.returns-in_default
 unfolding phase_of
-returns_9 c =
-    let high = c.match.rest in
+returns-in_default c =
+    let high = c.in_default.in_default-own.rest in
     let low = high.0.0.0.0 in
     ⊎_elim
     (λ none. rw none)
     (λ some.
     let past-four = four_more 0 _ some low.0.0.0.1 low.0.0.1 low.0.1 low.1 in
     let past_all = four_more 4 _ past-four high.0.0.0.1 high.0.0.1 high.0.1 high.1 in
-    sym (get_or-eq_default (phases_at c.before.args.position) Idle past_all))
-    (eq-zero-or-pos c.before.args.code)
-
-pub phase_of_spec : {M : Type 1} → statement M
-phase_of_spec =
-    tie.close
-    (tie.spec
-    returns
-    returns_2
-    returns_3
-    returns_4
-    returns_5
-    returns_6
-    returns_7
-    returns_8
-    returns_9)
+    sym (get_or-eq_default (phases_at c.args.position) Idle past_all))
+    (eq-zero-or-pos c.args.code)
