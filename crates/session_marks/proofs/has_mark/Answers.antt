@@ -5,11 +5,9 @@ use mathlib.Core.List.{List}
 use mathlib.Core.Bool.{false}
 use lib.Dec.{eqb}
 use lib.ListN.{length, get_or}
-use borrow.Author.Rules.{rules}
 use borrow.Author.Tests.{lt-ltb, le-ltb, eq-eqb, ne_eqb}
 use Rattle.session_marks.specs.Marks.{begins}
-use Rattle.session_marks.proofs.has_mark.Statement.{statement}
-use Rattle.session_marks.proofs.has_mark.Tie as tie
+use Rattle.session_marks.proofs.has_mark.Goals as goal
 
 module _ (bytes m : List ℕ) where
   too_few : length bytes < 2 → false ≡ begins bytes m
@@ -24,23 +22,11 @@ module _ (bytes m : List ℕ) where
   unfolding begins
   first_apart h e = rw (le-ltb (length bytes) 2 h, ne_eqb (get_or bytes 0 0) (get_or m 0 0) e)
 
-returns : tie.Need-returns
-returns c = too_few _ _ c.if1.true
+pub returns-then-rest-lt-MARK_LENGTH : goal.returns-then-rest-lt-MARK_LENGTH
+returns-then-rest-lt-MARK_LENGTH c = too_few _ _ c.if-rest-lt-MARK_LENGTH.true
 
-returns_2 : tie.Need-returns-2
-returns_2 c = first_alike _ _ c.before.before.before.if1.false c.before.if2.true
+pub returns-then-rest-mark : goal.returns-then-rest-mark
+returns-then-rest-mark c = first_alike _ _ c.if-rest-lt-MARK_LENGTH.false c.if-rest-mark.true
 
-returns_3 : tie.Need-returns-3
-returns_3 c = first_apart _ _ c.before.before.if1.false c.if2.false
-
-pub has_mark_spec : {M : Type 1} → statement M
-has_mark_spec =
-    tie.close
-    (tie.spec
-    returns
-    (λ c. search rules)
-    (λ c. search rules)
-    (λ c. search rules)
-    (λ c. search rules)
-    returns_2
-    returns_3)
+pub returns-else-rest-mark : goal.returns-else-rest-mark
+returns-else-rest-mark c = first_apart _ _ c.if-rest-lt-MARK_LENGTH.false c.if-rest-mark.false
