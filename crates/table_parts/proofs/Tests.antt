@@ -1,17 +1,16 @@
 -- Laws of tests: of two together, of a callee's answer, of every number below a count, and of a list after a store.
-use Rattle.std.proofs.Common.{◌≡◌, ℕ, zero, suc, ◌+◌, ◌<◌, ◌≤◌, Bool, true, false, not, ◌&&◌, ◌⊎◌, List, length, get_or, set, sym, refl, ◌∙◌, inl, inr, ⊎_elim, add-one, arith, get_or-set_other, get_or-set_same}
+use Rattle.std.proofs.Common.{◌≡◌, ℕ, zero, suc, ◌+◌, ◌<◌, ◌≤◌, Bool, true, false, ◌&&◌, ◌⊎◌, List, length, get_or, set, sym, refl, ◌∙◌, inl, inr, ⊎_elim, add-one, arith, get_or-set_other, get_or-set_same}
 use mathlib.Core.Bool as bool
 use mathlib.Core.Bool.{and-true}
-use borrow.Author.Tests.{not-true, not-false}
 use Rattle.memory.specs.Sound.{all_below}
 use Rattle.memory.proofs.Tools.{same?}
 
 -- a callee's answer `r` to a test `b`, refused or passed by `if !r`
-pub refused : {r b : Bool} → r ≡ b → not r ≡ true → b ≡ false
-refused {r} e h = sym e ∙ not-true r h
+pub refused : {r b : Bool} → r ≡ b → r ≡ false → b ≡ false
+refused e h = sym e ∙ h
 
-pub passed : {r b : Bool} → r ≡ b → not r ≡ false → b ≡ true
-passed {r} e h = sym e ∙ not-false r h
+pub passed : {r b : Bool} → r ≡ b → r ≡ true → b ≡ true
+passed e h = sym e ∙ h
 
 -- `a && b` as it is computed: b where a holds, and a where not
 pub and_then : {a b r : Bool} → a ≡ true → r ≡ b → r ≡ (a && b)

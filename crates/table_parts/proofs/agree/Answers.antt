@@ -1,5 +1,5 @@
 -- Two entries on one record, number by number.
-use Rattle.std.proofs.Common.{not, refl, ap, rules, eq-eqb, ne_eqb}
+use Rattle.std.proofs.Common.{not, refl, ap, eq-eqb, ne_eqb}
 use Rattle.table_parts.proofs.Tests.{and_then, and-stop}
 use Rattle.memory.specs.Pieces.{entry_of}
 use Rattle.table_parts.specs.Parts.{agree}

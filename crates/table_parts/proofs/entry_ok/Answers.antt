@@ -1,5 +1,5 @@
 -- An entry's tests, number by number.
-use Rattle.std.proofs.Common.{◌≡◌, ℕ, suc, ◌+◌, ◌%◌, ◌<◌, ◌≤◌, Bool, true, false, ◌||◌, eqb, leb, get_or, sym, refl, ⊎_elim, arith, rules, le-ltb, lt-ltb, eq-eqb, ne_eqb, leb-false, leb-true}
+use Rattle.std.proofs.Common.{◌≡◌, ℕ, suc, ◌+◌, ◌%◌, ◌<◌, ◌≤◌, Bool, true, false, ◌||◌, eqb, leb, get_or, sym, refl, ⊎_elim, arith, le-ltb, lt-ltb, eq-eqb, ne_eqb, leb-false, leb-true}
 use Rattle.memory.specs.Pieces.{entry_of, top_version}
 use Rattle.memory.specs.Sound.{within, entry_ok}
 use Rattle.memory.proofs.Tools.{same?, or_right_make, within_of}
@@ -38,4 +38,4 @@ next old new apart h f q = go (leb apart 1) refl
 pub returns : goal.returns
 unfolding entry_ok entry_of
 returns c =
-    simp (lt-ltb _ _ c.if-sizes-address.false, old_good (goal.at.returns c).Else-not-in_range, new_good (goal.at.returns c).Else-not-in_range-2, next _ _ _ (within_of (old_good (goal.at.returns c).Else-not-in_range)).1 (omega arith) c.wrapping_sub_u32.ensures)
+    simp (lt-ltb _ _ c.if-sizes-address.false, old_good (goal.at.returns c).Else-not-in_range, new_good (goal.at.returns c).Else-not-in_range-2, next _ _ _ (within_of (old_good (goal.at.returns c).Else-not-in_range)).1 (omega arith) c.wrapping_sub_u32.ensures.value)

@@ -1,5 +1,5 @@
 -- One more than the quotient fits.
-use Rattle.std.proofs.Common.{arith, rules}
+use Rattle.std.proofs.Common.{arith}
 use Rattle.table_parts.proofs.Division.{inverse_most}
 use Rattle.table_parts.proofs.inverse_of.Goals as goal
 

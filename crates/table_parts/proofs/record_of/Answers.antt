@@ -1,5 +1,5 @@
 -- The quotient by the product, and the rest that it leaves, which is the record.
-use Rattle.std.proofs.Common.{◌≡◌, ◌+◌, ◌*◌, ◌/◌, ◌%◌, get_or, mod-lt, arith, rules}
+use Rattle.std.proofs.Common.{◌≡◌, ◌+◌, ◌*◌, ◌/◌, ◌%◌, get_or, mod-lt, arith}
 use Rattle.memory.specs.Pieces.{entry_of}
 use Rattle.table_parts.proofs.Division.{product_most, rest}
 use Rattle.table_parts.proofs.record_of.Goals.{Start}
