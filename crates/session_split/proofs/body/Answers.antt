@@ -5,12 +5,10 @@ use mathlib.Core.List.{List, []}
 use lib.ListN.{length, take, drop, drop_of_length-le, length-drop}
 use lib.Seq.{take-nil, take_all}
 use native.Mathlib.Omega.{arith}
-use borrow.Author.Rules.{rules}
 use Rattle.session_marks.specs.declared.Kind.{Kind}
 use Rattle.session_fields.specs.Fields.{body_length}
 use Rattle.session_split.specs.Session.{body, record_length}
-use Rattle.session_split.proofs.body.Statement.{statement}
-use Rattle.session_split.proofs.body.Tie as tie
+use Rattle.session_split.proofs.body.Goals as goal
 
 module _ (k : Kind) (bytes : List ℕ) where
   no_mark : length bytes < 2 → [] ≡ body k bytes
@@ -31,27 +29,11 @@ module _ (k : Kind) (bytes : List ℕ) where
       size : end - 2 ≡ body_length k
       size = omega arith
 
-returns : tie.Need-returns
-returns c = no_mark _ _ c.before.if1.true
+pub returns-then-rest-lt-MARK_LENGTH : goal.returns-then-rest-lt-MARK_LENGTH
+returns-then-rest-lt-MARK_LENGTH c = no_mark _ _ c.if-rest-lt-MARK_LENGTH.true
 
-returns_2 : tie.Need-returns-2
-returns_2 c = cut_short _ _ _ c.before.before.record-length.ensures c.before.if2.true
+pub returns-then-rest-end : goal.returns-then-rest-end
+returns-then-rest-end c = cut_short _ _ _ c.record_length-end.ensures c.if-rest-end.true
 
-returns_3 : tie.Need-returns-3
-returns_3 c = whole _ _ _ c.before.before.record-length.ensures
-
-pub body_spec : {M : Type 1} → statement M
-body_spec =
-    tie.close
-    (tie.spec
-    (λ c. search rules)
-    returns
-    (λ c κs. search rules)
-    (λ c. search rules)
-    (λ c. search rules)
-    (λ c. search rules)
-    returns_2
-    (λ c. search rules)
-    (λ c. search rules)
-    (λ c. search rules)
-    returns_3)
+pub returns : goal.returns
+returns c = whole _ _ _ c.record_length-end.ensures
