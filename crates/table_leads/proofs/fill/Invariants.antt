@@ -5,7 +5,7 @@ use lib.ListN.{length, get_or}
 use Rattle.table_leads.proofs.Parts.{Part}
 use Rattle.table_leads.proofs.fill.Given as goal
 
--- the last number of a place: its task's own set
+-- the set that the place of task t has
 abbrev pub own : List (List ℕ) → ℕ → ℕ
 own places t = get_or (get_or places t []) 3 0
 
