@@ -1,0 +1,20 @@
+-- From where a phase's entries count, kind by kind.
+use Rattle.table_places.proofs.owns_in.Goals as goal
+
+pub returns-in-Idle : goal.returns-in-Idle
+returns-in-Idle c = rw c.in-Idle.is c.limit-none.ensures
+
+pub returns-in-Open : goal.returns-in-Open
+returns-in-Open c = rw c.in-Open.is c.limit-none.ensures
+
+pub returns-in-Taking : goal.returns-in-Taking
+returns-in-Taking c = rw c.in-Taking.is
+
+pub returns-in-Asleep : goal.returns-in-Asleep
+returns-in-Asleep c = rw c.in-Asleep.is
+
+pub returns-in-Writing : goal.returns-in-Writing
+returns-in-Writing c = rw c.in-Writing.is
+
+pub returns-in-Releasing : goal.returns-in-Releasing
+returns-in-Releasing c = rw c.in-Releasing.is
