@@ -1,4 +1,5 @@
 -- What a call answers: each number by its condition and the order, and the value.
+use Rattle.std.specs.Prelude.{if◌then◌else◌}
 use Prim.Native.Nat.{ℕ, suc, ◌%◌, ◌<◌, ◌≤◌}
 use mathlib.Core.Path.{◌≡◌, refl, sym, ap, ◌∙◌, subst}
 use mathlib.Core.Logic.{◌⊎◌, inl, inr, ◌≢◌}
@@ -8,7 +9,7 @@ use lib.Dec.{eqb, ltb, leb}
 use lib.ListN.{length, get_or}
 use native.Mathlib.Omega.{arith}
 use borrow.Author.Tests.{ltb-true, ltb-false, leb-true, leb-false, eqb-true, eqb-false, not-true, not-false}
-use Rattle.memory.specs.{if◌then◌else◌, Sizes, Phase, Idle, Open, Entry, Memory, is_idle, is_open, steps, place, entries, limit, top_version, index, index_of, index_on, blank, logical, sound, Reply, asked, start, abort, commit, wait, fresh, known, added, overtaken, addressed, read, store, write, step, Call, ST, CM, AB, WT, SP, RD, WR, call, ours, ◌∈◌, Row, Given, OneNumber, phase, New, OnRecord, Overtaken, OldVersion, refusals, unusable, rows_of, Valued, CallAnswers}
+use Rattle.memory.specs.{Sizes, Phase, Idle, Open, Entry, Memory, is_idle, is_open, steps, place, entries, limit, top_version, index, index_of, index_on, blank, logical, sound, Reply, asked, start, abort, commit, wait, fresh, known, added, overtaken, addressed, read, store, write, step, Call, ST, CM, AB, WT, SP, RD, WR, call, ours, ◌∈◌, Row, Given, OneNumber, phase, New, OnRecord, Overtaken, OldVersion, refusals, unusable, rows_of, Valued, CallAnswers}
 use Rattle.memory.proofs.Tools.{if_cases, and_0, and_1}
 use Rattle.memory.proofs.Codes.{is_idle_lem, is_open_lem}
 use Rattle.memory.proofs.Cases.{no_refusal, asked_cases, addressed_cases, asked_0}

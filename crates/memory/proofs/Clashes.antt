@@ -1,4 +1,5 @@
 -- What a clash makes of the places (§7.7, §7.17): of the owner, and of those who end with it.
+use Rattle.std.specs.Prelude.{if◌then◌else◌}
 use Prim.Native.Nat.{ℕ, zero, suc, ◌<◌}
 use mathlib.Core.Path.{◌≡◌, refl, sym, ap, ◌∙◌}
 use mathlib.Core.Logic.{◌⊎◌, inl, inr, ◌≢◌}
@@ -7,7 +8,7 @@ use mathlib.Core.Bool.{Bool, true, false, true≢false}
 use lib.ListN.{length, get_or, set, length-set}
 use lib.Seq.{get_or-set_same, get_or-set_other}
 use native.Mathlib.Omega.{arith}
-use Rattle.memory.specs.{if◌then◌else◌, Sizes, Memory, Failed, Releasing, row_of, place, place_of, set_place, move, fails, wakes, ends_with, ended_with, end_all, clash}
+use Rattle.memory.specs.{Sizes, Memory, Failed, Releasing, row_of, place, place_of, set_place, move, fails, wakes, ends_with, ended_with, end_all, clash}
 use Rattle.memory.proofs.Tools.{same?, if_cases}
 use Rattle.memory.proofs.Codes.{place_back}
 use Rattle.memory.proofs.Stores.{place_other}

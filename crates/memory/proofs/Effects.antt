@@ -1,4 +1,5 @@
 -- What a request and an opening leave where they are not refused.
+use Rattle.std.specs.Prelude.{if◌then◌else◌}
 use Prim.Native.Nat.{ℕ, suc, ◌+◌, ◌%◌, ◌<◌, ◌≤◌}
 use mathlib.Core.Path.{◌≡◌, refl, sym, ap, ◌∙◌, subst⁻¹}
 use mathlib.Core.Logic.{inl, inr}
@@ -8,7 +9,7 @@ use lib.Dec.{eqb}
 use lib.ListN.{length, length-replicate}
 use native.Mathlib.Omega.{arith}
 use borrow.Author.Tests.{eq-eqb, ne_eqb}
-use Rattle.memory.specs.{if◌then◌else◌, Sizes, Commit, Sleep, Phase, Open, Taking, Place, Entry, Memory, is_idle, is_open, place, moved, bare, ended, entries, run, run_start, limit, set_place, move, top_version, index_of, logical, sound, Reply, start, abort, commit, wait, fresh, known, added, overtaken, opened, row_of, row_of_entry, blank, read, written, rewrite, store, write, ST, CM, AB, WT, SP, RD, WR, call, ours, ◌∈◌, phase, OnRecord, Fresh, Entered, Written, RequestsLeave, Opened, OpeningLeaves}
+use Rattle.memory.specs.{Sizes, Commit, Sleep, Phase, Open, Taking, Place, Entry, Memory, is_idle, is_open, place, moved, bare, ended, entries, run, run_start, limit, set_place, move, top_version, index_of, logical, sound, Reply, start, abort, commit, wait, fresh, known, added, overtaken, opened, row_of, row_of_entry, blank, read, written, rewrite, store, write, ST, CM, AB, WT, SP, RD, WR, call, ours, ◌∈◌, phase, OnRecord, Fresh, Entered, Written, RequestsLeave, Opened, OpeningLeaves}
 use Rattle.memory.specs.Effects.{Goes, Leaves}
 use Rattle.memory.proofs.SoundLasts.{opened_idle}
 use Rattle.memory.proofs.Tools.{if_cases}

@@ -1,4 +1,5 @@
 -- Every transaction that commits is in the list, from its deciding step on, and is put there once.
+use Rattle.std.specs.Prelude.{if◌then◌else◌}
 use Prim.Native.Nat.{ℕ, suc, ◌<◌}
 use mathlib.Core.Path.{◌≡◌, refl, sym, ap, ◌∙◌, subst, subst⁻¹}
 use mathlib.Core.Logic.{◌⊎◌, inl, inr, ◌≢◌}
@@ -7,7 +8,7 @@ use mathlib.Core.List.{List, [], ◌∷◌}
 use mathlib.Core.Bool.{Bool, true, false, false≢true}
 use lib.Dec.{eqb}
 use native.Mathlib.Omega.{arith}
-use Rattle.memory.specs.{if◌then◌else◌, Sizes, Commit, Sleep, Committed, Failed, Woken, Phase, Open, Taking, Asleep, Releasing, Place, Entry, Memory, is_idle, is_open, steps, wakes, kind_of, which_of, position_of, committed, place, bare, ended, set_place, move, top_version, sound, joined, Reply, reply, refused, opened, open_board, start, abort, commit, wait, fresh, known, added, written, rewrite, read, store, write, Call, ST, CM, AB, WT, SP, RD, WR, call, asker, ◌∈◌, Op, Notes, nothing, logged, decides, stepped, noted, Event, request, lookup, opening, listed, Scene, scene, begun, next, ran, reached, refusal, Clashed, phase, Opened, CommittedIsListed}
+use Rattle.memory.specs.{Sizes, Commit, Sleep, Committed, Failed, Woken, Phase, Open, Taking, Asleep, Releasing, Place, Entry, Memory, is_idle, is_open, steps, wakes, kind_of, which_of, position_of, committed, place, bare, ended, set_place, move, top_version, sound, joined, Reply, reply, refused, opened, open_board, start, abort, commit, wait, fresh, known, added, written, rewrite, read, store, write, Call, ST, CM, AB, WT, SP, RD, WR, call, asker, ◌∈◌, Op, Notes, nothing, logged, decides, stepped, noted, Event, request, lookup, opening, listed, Scene, scene, begun, next, ran, reached, refusal, Clashed, phase, Opened, CommittedIsListed}
 use Rattle.memory.proofs.Tools.{same?, if_cases, upd_other}
 use Rattle.memory.proofs.Codes.{phase_of_lem}
 use Rattle.memory.proofs.Cases.{no_refusal, opening_cases, asked_cases, addressed_cases}

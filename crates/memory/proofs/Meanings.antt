@@ -1,4 +1,5 @@
 -- What the other claims lean on: the numbers, the rows, a sound table, the logical value and version.
+use Rattle.std.specs.Prelude.{if◌then◌else◌}
 use Prim.Native.Nat.{ℕ, suc, ◌%◌, ◌<◌, ◌≤◌}
 use mathlib.Core.Path.{◌≡◌, refl, sym, ap, ◌∙◌, subst}
 use mathlib.Core.Logic.{◌⊎◌, inl, inr, ◌≢◌, ⊎_elim}
@@ -9,7 +10,7 @@ use lib.ListN.{length, get_or}
 use native.Mathlib.Omega.{arith}
 use native.Mathlib.Nat.{mod-lt}
 use borrow.Author.Tests.{ltb-true, lt-ltb, eqb-true, eq-eqb}
-use Rattle.memory.specs.{if◌then◌else◌, Sizes, Goal, Outcome, Committed, Failed, Woken, Phase, Idle, Open, Taking, Asleep, Writing, Releasing, Held, Version, Owner, Seen, Entry, Memory, position_of, is_idle, steps, committed, row_of, place, place_of, entry, entries, held, held_of, number_of, limit, index, index_of, index_on, blank, shows, owned_at, logical_at, logical, sound, sizes_ok, entry_ok, held_ok, task_ok, counts_from, ◌∈◌, phase, New, row_of_entry, run_start, Figures, Layout, SoundEntry, SoundTask, SoundOwner, SoundTable, SoundMeans, OneTest, shown, LogicalAt, LogicalMeans, OneSight}
+use Rattle.memory.specs.{Sizes, Goal, Outcome, Committed, Failed, Woken, Phase, Idle, Open, Taking, Asleep, Writing, Releasing, Held, Version, Owner, Seen, Entry, Memory, position_of, is_idle, steps, committed, row_of, place, place_of, entry, entries, held, held_of, number_of, limit, index, index_of, index_on, blank, shows, owned_at, logical_at, logical, sound, sizes_ok, entry_ok, held_ok, task_ok, counts_from, ◌∈◌, phase, New, row_of_entry, run_start, Figures, Layout, SoundEntry, SoundTask, SoundOwner, SoundTable, SoundMeans, OneTest, shown, LogicalAt, LogicalMeans, OneSight}
 use Rattle.memory.proofs.Tools.{both, and_0, and_1, and_make, or_left_make, or_right_make, below_make, within_of, within_make}
 use Rattle.memory.proofs.Sets.{has_shift}
 use Rattle.memory.proofs.Codes.{place_back, entry_back, version_back, owner_back, is_idle_lem}

@@ -1,4 +1,5 @@
 -- The claims that a wrong step breaks alone.
+use Rattle.std.specs.Prelude.{if◌then◌else◌}
 use Prim.Native.Nat.{ℕ, ◌%◌, ◌<◌}
 use mathlib.Core.Path.{◌≡◌, refl, sym, ap, ◌∙◌, subst⁻¹}
 use mathlib.Core.Logic.{inr, ◌≢◌, ⊎_elim}
@@ -7,7 +8,7 @@ use lib.Dec.{eqb}
 use lib.ListN.{drop}
 use native.Mathlib.Omega.{arith}
 use borrow.Author.Tests.{ltb-true, eqb-true, eqb-false, not-true}
-use Rattle.memory.specs.{place, Sizes, Goal, Failed, Taking, Asleep, Writing, Releasing, Held, Version, Owner, Place, Memory, kind_of, position_of, is, held, entry, move, sound, Reply, reply, wakes, if◌then◌else◌, SP, call, ours, Given, refusal, rows_of, phase, Meets, Steps, Promised, Claim, Needed, call_answers, steps-leave, clashes_end}
+use Rattle.memory.specs.{place, Sizes, Goal, Failed, Taking, Asleep, Writing, Releasing, Held, Version, Owner, Place, Memory, kind_of, position_of, is, held, entry, move, sound, Reply, reply, wakes, SP, call, ours, Given, refusal, rows_of, phase, Meets, Steps, Promised, Claim, Needed, call_answers, steps-leave, clashes_end}
 use Rattle.memory.specs.Thirteen.{another, comes_to_another, writing_stays, owner_stays}
 use Rattle.memory.proofs.Tools.{and_0, and_1, if_cases}
 use Rattle.memory.proofs.Cases.{no_refusal}

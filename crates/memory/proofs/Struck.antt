@@ -1,4 +1,5 @@
 -- What a clash makes of the places, as the claims say it: of the owner, of those to whom its list leads, and of nobody else.
+use Rattle.std.specs.Prelude.{if◌then◌else◌}
 use Prim.Native.Nat.{ℕ, suc, ◌%◌, ◌^◌, ◌<◌}
 use mathlib.Core.Path.{◌≡◌, refl, sym, ap, ◌∙◌, subst⁻¹}
 use mathlib.Core.Logic.{◌⊎◌, inl, inr, ◌≢◌, ◌↔◌, ⊎_elim}
@@ -10,7 +11,7 @@ use lib.Seq.{get_or-set_other}
 use native.Mathlib.Omega.{arith}
 use native.Mathlib.Nat.{mod-lt}
 use borrow.Author.Tests.{ltb-true, ltb-false, eqb-true, eq-eqb, not-true}
-use Rattle.memory.specs.{if◌then◌else◌, Sizes, Sleep, Failed, Woken, Phase, Idle, Open, Taking, Asleep, Writing, Releasing, Place, Owner, Entry, Memory, row_of, place, entry, entries, held, index_on, moved, set_place, move, sound, has, fails, wakes, ends_with, ended_with, end_all, ending, clash, version_on, joined, ◌∈◌, Led, itself, onward, Clashed, struck, Ending, EndsWith, OneVersion, Joining}
+use Rattle.memory.specs.{Sizes, Sleep, Failed, Woken, Phase, Idle, Open, Taking, Asleep, Writing, Releasing, Place, Owner, Entry, Memory, row_of, place, entry, entries, held, index_on, moved, set_place, move, sound, has, fails, wakes, ends_with, ended_with, end_all, ending, clash, version_on, joined, ◌∈◌, Led, itself, onward, Clashed, struck, Ending, EndsWith, OneVersion, Joining}
 use Rattle.memory.proofs.Tools.{both, and_0, and_1, and_make, or_left_make, or_right_make, same?}
 use Rattle.memory.proofs.Sets.{in_set, set_in, small_in}
 use Rattle.memory.proofs.Leads.{or_cases, led_cases, ends_led, led_ends}

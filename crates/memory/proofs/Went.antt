@@ -1,4 +1,5 @@
 -- The step, taken apart once: every step of a sound table by a task that may step goes by one of these lines.
+use Rattle.std.specs.Prelude.{if◌then◌else◌}
 use Prim.Native.Nat.{ℕ, suc, ◌%◌, ◌<◌, ◌≤◌}
 use mathlib.Core.Path.{◌≡◌, refl, sym, ap, ◌∙◌, subst, subst⁻¹}
 use mathlib.Core.Logic.{◌⊎◌, inl, inr, ◌≢◌, ⊎_elim}
@@ -8,7 +9,7 @@ use lib.ListN.{length}
 use native.Mathlib.Omega.{arith}
 use native.Mathlib.Nat.{mod-lt}
 use borrow.Author.Tests.{ltb-true, ltb-false, eqb-true, eqb-false, not-true, not-false}
-use Rattle.memory.specs.{if◌then◌else◌, Sizes, Goal, Commit, Sleep, Outcome, Committed, Failed, Phase, Idle, Open, Taking, Asleep, Writing, Releasing, Place, Held, Version, Owner, Memory, position_of, steps, place, entry, held, ended, moved, set_word, set_held, set_place, move, sound, may_join, ends_with, joining, version_on, joined, Led, Reply, reply, refused, refusal, wakes, clash, meet, take_step, decide, end_number, release_step, step_in, step, SP, call, decided, final}
+use Rattle.memory.specs.{Sizes, Goal, Commit, Sleep, Outcome, Committed, Failed, Phase, Idle, Open, Taking, Asleep, Writing, Releasing, Place, Held, Version, Owner, Memory, position_of, steps, place, entry, held, ended, moved, set_word, set_held, set_place, move, sound, may_join, ends_with, joining, version_on, joined, Led, Reply, reply, refused, refusal, wakes, clash, meet, take_step, decide, end_number, release_step, step_in, step, SP, call, decided, final}
 use Rattle.memory.proofs.Tools.{both, if_cases}
 use Rattle.memory.proofs.Leads.{led_cases, ends_led}
 use Rattle.memory.proofs.Codes.{not_owner, owner_inj, final-is}

@@ -1,6 +1,6 @@
 -- §8: how long a commit takes, counted in steps of its own task, whatever other tasks call in between.
-use Rattle.std.specs.Prelude.{ℕ, ◌+◌, ◌*◌, ◌<◌, ◌≤◌, ◌≡◌, ◌⊎◌, List, [], ◌∷◌, true, eqb, length}
-use Rattle.memory.specs.Pieces.{if◌then◌else◌, Sizes, Commit, Taking, Memory, place, entries}
+use Rattle.std.specs.Prelude.{ℕ, ◌+◌, ◌*◌, ◌<◌, ◌≤◌, ◌≡◌, ◌⊎◌, List, [], ◌∷◌, true, eqb, length, if◌then◌else◌}
+use Rattle.memory.specs.Pieces.{Sizes, Commit, Taking, Memory, place, entries}
 use Rattle.memory.specs.Sound.{sound}
 use Rattle.memory.specs.Numbers.{Reply}
 use Rattle.memory.specs.Calls.{Call, ST, CM, AB, WT, SP, RD, WR, call}

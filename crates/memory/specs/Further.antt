@@ -1,7 +1,7 @@
 -- Further positions beside K1 to K11, as two lists: a sleeper's steps, clashes, refusals, and each limit at its number and one past
 -- it; and several asleep on one record.
-use Rattle.std.specs.Prelude.{ℕ, zero, suc, ◌*◌, List, [], ◌∷◌, ◌++◌, Bool, true, false, ◌&&◌, drop, replicate}
-use Rattle.memory.specs.Pieces.{if◌then◌else◌, Sizes, Memory, memory, Failed, Woken, Phase, Idle, Open, Asleep, Writing, Releasing, place, bare, row_of}
+use Rattle.std.specs.Prelude.{ℕ, zero, suc, ◌*◌, List, [], ◌∷◌, ◌++◌, Bool, true, false, ◌&&◌, drop, replicate, if◌then◌else◌}
+use Rattle.memory.specs.Pieces.{Sizes, Memory, memory, Failed, Woken, Phase, Idle, Open, Asleep, Writing, Releasing, place, bare, row_of}
 use Rattle.memory.specs.Sound.{row_eqb}
 use Rattle.memory.specs.Requests.{open_board}
 use Rattle.memory.specs.Calls.{Call, ST, CM, AB, WT, SP, RD, WR}

@@ -1,7 +1,7 @@
 -- §14: slips. More wrong machines, and wrong histories, each ours but for what its line says. SlipsLists has those of lists;
 -- SlipsRefuted says which claim each breaks.
-use Rattle.std.specs.Prelude.{ℕ, suc, ◌+◌, ◌*◌, ◌%◌, ◌≡◌, List, [], ◌∷◌, Bool, true, not, ◌&&◌, eqb, ltb, leb, replicate}
-use Rattle.memory.specs.Pieces.{if◌then◌else◌, Sizes, Commit, Sleep, Committed, Failed, Phase, Taking, Asleep, Writing, Releasing, Held, Version, Owner, Seen, Entry, Memory, memory, is, committed, position_of, code_of, phase_of, held, place, ended, entry, set_held, set_place, set_entry, move}
+use Rattle.std.specs.Prelude.{ℕ, suc, ◌+◌, ◌*◌, ◌%◌, ◌≡◌, List, [], ◌∷◌, Bool, true, not, ◌&&◌, eqb, ltb, leb, replicate, if◌then◌else◌}
+use Rattle.memory.specs.Pieces.{Sizes, Commit, Sleep, Committed, Failed, Phase, Taking, Asleep, Writing, Releasing, Held, Version, Owner, Seen, Entry, Memory, memory, is, committed, position_of, code_of, phase_of, held, place, ended, entry, set_held, set_place, set_entry, move}
 use Rattle.memory.specs.Logical.{logical}
 use Rattle.memory.specs.Sound.{all_below, sizes_ok, lengths_ok, task_ok}
 use Rattle.memory.specs.Numbers.{reply, refused}

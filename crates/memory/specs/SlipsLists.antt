@@ -1,6 +1,6 @@
 -- §14: slips of the lists of those who sleep with another (§2.14, §7.8, §7.17), each ours but for what its line says.
-use Rattle.std.specs.Prelude.{ℕ, zero, suc, ◌-◌, Bool, not, ◌&&◌, eqb, ltb, leb}
-use Rattle.memory.specs.Pieces.{if◌then◌else◌, Sizes, Sleep, Failed, Woken, Phase, Taking, Releasing, Place, Memory, is, held, place, ended, set_place, move}
+use Rattle.std.specs.Prelude.{ℕ, zero, suc, ◌-◌, Bool, not, ◌&&◌, eqb, ltb, leb, if◌then◌else◌}
+use Rattle.memory.specs.Pieces.{Sizes, Sleep, Failed, Woken, Phase, Taking, Releasing, Place, Memory, is, held, place, ended, set_place, move}
 use Rattle.memory.specs.Sound.{all_below, held_ok, joins_ok}
 use Rattle.memory.specs.Step.{fails, wakes, clash, joined}
 use Rattle.memory.specs.Machines.{Machine}

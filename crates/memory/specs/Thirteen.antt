@@ -1,6 +1,6 @@
 -- Thirteen wrong machines, one for each claim of Fixed, in its order: each breaks this claim and meets the other twelve.
-use Rattle.std.specs.Prelude.{ℕ, ◌-◌, ◌%◌, List, [], ◌∷◌, Bool, false, not, ◌&&◌, eqb, ltb, replicate, set}
-use Rattle.memory.specs.Pieces.{if◌then◌else◌, Sizes, Failed, Open, Writing, Releasing, Held, Version, Owner, Entry, Memory, memory, position_of, is, held, place, bare, limit, entry, set_word, set_place, set_entry, move}
+use Rattle.std.specs.Prelude.{ℕ, ◌-◌, ◌%◌, List, [], ◌∷◌, Bool, false, not, ◌&&◌, eqb, ltb, replicate, set, if◌then◌else◌}
+use Rattle.memory.specs.Pieces.{Sizes, Failed, Open, Writing, Releasing, Held, Version, Owner, Entry, Memory, memory, position_of, is, held, place, bare, limit, entry, set_word, set_place, set_entry, move}
 use Rattle.memory.specs.Logical.{nothing_seen}
 use Rattle.memory.specs.Step.{fails}
 use Rattle.memory.specs.Requests.{opened, looked}

@@ -1,6 +1,6 @@
 -- Wrong machines as values: ours with the reply to one kind of call twisted.
-use Rattle.std.specs.Prelude.{ℕ, eqb}
-use Rattle.memory.specs.Pieces.{if◌then◌else◌, Sizes, Memory}
+use Rattle.std.specs.Prelude.{ℕ, eqb, if◌then◌else◌}
+use Rattle.memory.specs.Pieces.{Sizes, Memory}
 use Rattle.memory.specs.Numbers.{Looked, Reply, reply}
 use Rattle.memory.specs.Requests.{open_board, look}
 use Rattle.memory.specs.Calls.{Call, ST, CM, AB, WT, SP, RD, WR, call}

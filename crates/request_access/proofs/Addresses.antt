@@ -1,4 +1,5 @@
 -- How a Read or Write goes on, number by number, on a sound table.
+use Rattle.std.specs.Prelude.{if◌then◌else◌}
 use Prim.Native.Nat.{ℕ, ◌<◌, ◌≤◌}
 use mathlib.Core.Path.{◌≡◌, refl, ap, ◌∙◌, subst⁻¹}
 use mathlib.Core.Bool.{true, false}
@@ -8,7 +9,7 @@ use borrow.Author.Tests.{lt-ltb, le-ltb, leb-false}
 use Rattle.memory.specs.declared.Sizes.{Sizes}
 use Rattle.memory.specs.declared.Place.{Place}
 use Rattle.memory.specs.declared.Entry.{Entry}
-use Rattle.memory.specs.Pieces.{if◌then◌else◌, Memory, is_open, place, entries, run, limit, ended, set_place}
+use Rattle.memory.specs.Pieces.{Memory, is_open, place, entries, run, limit, ended, set_place}
 use Rattle.memory.specs.Logical.{index_of}
 use Rattle.memory.specs.Sound.{sound}
 use Rattle.memory.specs.Numbers.{Reply, reply, refused}

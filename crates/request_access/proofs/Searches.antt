@@ -1,4 +1,5 @@
 -- What is known of a search by what it found.
+use Rattle.std.specs.Prelude.{if◌then◌else◌}
 use Prim.Native.Nat.{ℕ, ◌<◌, ◌≤◌}
 use mathlib.Core.Path.{◌≡◌, refl}
 use mathlib.Core.List.{List}
@@ -8,7 +9,6 @@ use lib.ListN.{length, get_or}
 use native.Mathlib.Omega.{arith}
 use borrow.Author.Tests.{ltb-true, ltb-false}
 use Rattle.memory.specs.declared.Entry.{Entry}
-use Rattle.memory.specs.Pieces.{if◌then◌else◌}
 use Rattle.memory.specs.Logical.{blank}
 use Rattle.request_fresh.specs.declared.Found.TheVariants.{Nothing, First}
 use Rattle.request_fresh.specs.Contract.{found_at}

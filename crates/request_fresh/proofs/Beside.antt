@@ -1,4 +1,5 @@
 -- A new address by the entry beside it.
+use Rattle.std.specs.Prelude.{if◌then◌else◌}
 use Prim.Native.Nat.{ℕ, ◌%◌}
 use mathlib.Core.Path.{◌≡◌, refl}
 use mathlib.Core.List.{List}
@@ -9,7 +10,7 @@ use Rattle.memory.specs.declared.Sizes.{Sizes}
 use Rattle.memory.specs.declared.Place.{Place}
 use Rattle.memory.specs.declared.Seen.{Seen}
 use Rattle.memory.specs.declared.Entry.{Entry}
-use Rattle.memory.specs.Pieces.{if◌then◌else◌, Memory, place, entries, run}
+use Rattle.memory.specs.Pieces.{Memory, place, entries, run}
 use Rattle.memory.specs.Logical.{blank, index_on, logical}
 use Rattle.memory.specs.Requests.{fresh, overtaken}
 use Rattle.request_fresh.specs.declared.Found.{Found}

@@ -1,10 +1,10 @@
 -- What the functions of a new address are held to, in the terms of crate memory's definitions (§6.6 to §6.8).
-use Rattle.std.specs.Prelude.{ℕ, ◌%◌, Bool, false, not, List, eqb, ltb, leb, length, get_or}
+use Rattle.std.specs.Prelude.{ℕ, ◌%◌, Bool, false, not, List, eqb, ltb, leb, length, get_or, if◌then◌else◌}
 use Rattle.memory.specs.declared.Sizes.{Sizes}
 use Rattle.memory.specs.declared.Place.{Place}
 use Rattle.memory.specs.declared.Seen.{Seen}
 use Rattle.memory.specs.declared.Entry.{Entry}
-use Rattle.memory.specs.Pieces.{if◌then◌else◌, Memory, limit}
+use Rattle.memory.specs.Pieces.{Memory, limit}
 use Rattle.memory.specs.Logical.{blank, index_on}
 use Rattle.memory.specs.Requests.{fresh, overtaken}
 use Rattle.request_fresh.specs.declared.Found.{Found}

@@ -1,4 +1,5 @@
 -- The bytes in which a kind is found begin with its mark, and bytes that begin with its mark are found as it.
+use Rattle.std.specs.Prelude.{if◌then◌else◌}
 use Prim.Native.Nat.{ℕ}
 use mathlib.Core.Path.{◌≡◌, refl, sym, ap, ◌∙◌}
 use mathlib.Core.List.{List, [], ◌∷◌, ◌++◌}
@@ -7,7 +8,6 @@ use lib.Dec.{ltb, eqb}
 use lib.ListN.{length, get_or, take}
 use native.Mathlib.Omega.{arith}
 use borrow.Author.Tests.{eqb-true, le-ltb}
-use Rattle.memory.specs.Pieces.{if◌then◌else◌}
 use Rattle.memory.proofs.Tools.{and_0, and_1}
 use Rattle.session_marks.specs.Marks.{Kind, Open, Start, Commit, Abort, Wait, Step, Read, Write, Known, mark, begins, kind_among, kind_at}
 

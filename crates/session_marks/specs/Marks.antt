@@ -3,8 +3,7 @@ pub use Rattle.session_marks.specs.declared.Kind.{Kind}
 pub use Rattle.session_marks.specs.declared.Kind.TheVariants.{Open, Start, Commit, Abort, Wait, Step, Read, Write}
 pub use Rattle.session_marks.specs.declared.Marked.{Marked}
 pub use Rattle.session_marks.specs.declared.Marked.TheVariants.{Known, Unknown}
-use Rattle.std.specs.Prelude.{ℕ, List, [], ◌∷◌, Bool, true, false, not, ◌&&◌, length, get_or, ltb, eqb}
-use Rattle.memory.specs.Pieces.{if◌then◌else◌}
+use Rattle.std.specs.Prelude.{ℕ, List, [], ◌∷◌, Bool, true, false, not, ◌&&◌, length, get_or, ltb, eqb, if◌then◌else◌}
 
 -- §11.2: the marks BD, ST, CM, AB, WT, SP, RD and WR.
 abbrev pub mark : Kind → List ℕ

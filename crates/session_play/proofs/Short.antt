@@ -1,4 +1,5 @@
 -- No text is longer than is claimed: the lines of the records by their number and their digits, and those of the board.
+use Rattle.std.specs.Prelude.{if◌then◌else◌}
 use Prim.Native.Nat.{ℕ, zero, suc, ◌+◌, ◌*◌, ◌^◌, ◌<◌, ◌≤◌}
 use mathlib.Core.Path.{◌≡◌, refl, ◌∙◌}
 use mathlib.Core.List.Memᴰ
@@ -10,7 +11,7 @@ use native.Mathlib.Nat.{pow-suc}
 use native.Mathlib.Omega.{arith}
 use borrow.Author.Tests.{ltb-false}
 use Rattle.memory.specs.declared.Sizes.{Sizes}
-use Rattle.memory.specs.Pieces.{if◌then◌else◌, Memory, most_words, top_version}
+use Rattle.memory.specs.Pieces.{Memory, most_words, top_version}
 use Rattle.memory.specs.Sound.{within, sizes_ok, lengths_ok}
 use Rattle.memory.specs.Numbers.{Reply}
 use Rattle.memory.specs.Requests.{open_board}

@@ -1,8 +1,8 @@
 -- What the contract of the code cites besides the text itself.
 pub use Rattle.session_play.specs.declared.Played.{Played}
 pub use Rattle.session_play.specs.declared.Played.TheVariants.{Whole, TooShort}
-use Rattle.std.specs.Prelude.{ℕ, List, Bool, ◌&&◌, leb, length}
-use Rattle.memory.specs.Pieces.{if◌then◌else◌, Memory, most_words, most_records, most_tasks, most_rows}
+use Rattle.std.specs.Prelude.{ℕ, List, Bool, ◌&&◌, leb, length, if◌then◌else◌}
+use Rattle.memory.specs.Pieces.{Memory, most_words, most_records, most_tasks, most_rows}
 use Rattle.session_text.specs.Text.{written}
 use Rattle.session_print.specs.Print.{text}
 

@@ -1,4 +1,5 @@
 -- What tables of the sizes asked hold before the opening has no part in the text.
+use Rattle.std.specs.Prelude.{if◌then◌else◌}
 use Prim.Native.Nat.{ℕ, ◌*◌, ◌≤◌}
 use mathlib.Core.Path.{◌≡◌, refl, sym, ap, ◌∙◌}
 use mathlib.Core.List.{List, []}
@@ -8,7 +9,7 @@ use lib.Seq.{length-take-le}
 use native.Mathlib.Omega.{arith}
 use borrow.Author.Tests.{eq-eqb, leb-true}
 use Rattle.memory.specs.declared.Sizes.{Sizes}
-use Rattle.memory.specs.Pieces.{if◌then◌else◌, Memory, memory, limit, run_start, most_words, most_records, most_tasks, top_version}
+use Rattle.memory.specs.Pieces.{Memory, memory, limit, run_start, most_words, most_records, most_tasks, top_version}
 use Rattle.memory.specs.Sound.{within, sizes_ok, lengths_ok}
 use Rattle.memory.specs.Numbers.{Reply, reply, refused}
 use Rattle.memory.specs.Requests.{opened, open_board}

@@ -1,7 +1,7 @@
 -- §12, the player: the text that it prints for the bytes of a session.
-use Rattle.std.specs.Prelude.{ℕ, List, [], ◌++◌}
+use Rattle.std.specs.Prelude.{ℕ, List, [], ◌++◌, if◌then◌else◌}
 use Rattle.memory.specs.declared.Sizes.{Sizes}
-use Rattle.memory.specs.Pieces.{if◌then◌else◌, Memory}
+use Rattle.memory.specs.Pieces.{Memory}
 use Rattle.memory.specs.Requests.{opened}
 use Rattle.session_fields.specs.Fields as fields
 use Rattle.session_split.specs.Session as file

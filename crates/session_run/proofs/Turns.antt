@@ -1,4 +1,5 @@
 -- What is left to run of a session from one of its places on: one record more, or the end.
+use Rattle.std.specs.Prelude.{if◌then◌else◌}
 use Prim.Native.Nat.{ℕ, suc, ◌+◌, ◌<◌}
 use mathlib.Core.Path.{◌≡◌}
 use mathlib.Core.List.{List, []}
@@ -6,7 +7,7 @@ use mathlib.Core.Bool.{false}
 use lib.Dec.{eqb}
 use lib.ListN.{length, drop}
 use Rattle.memory.specs.declared.Sizes.{Sizes}
-use Rattle.memory.specs.Pieces.{if◌then◌else◌, Memory}
+use Rattle.memory.specs.Pieces.{Memory}
 use Rattle.memory.specs.Numbers.{Reply}
 use Rattle.session_marks.specs.declared.Kind.{Kind}
 use Rattle.session_split.specs.declared.Split.{Split}

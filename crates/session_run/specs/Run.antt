@@ -1,7 +1,7 @@
 -- §12.2, §12.3: what the records of a session come to, by the calls of the memory.
-use Rattle.std.specs.Prelude.{ℕ, suc, List, [], ◌∷◌, false}
+use Rattle.std.specs.Prelude.{ℕ, suc, List, [], ◌∷◌, false, if◌then◌else◌}
 use Rattle.memory.specs.declared.Sizes.{Sizes}
-use Rattle.memory.specs.Pieces.{if◌then◌else◌, Memory}
+use Rattle.memory.specs.Pieces.{Memory}
 use Rattle.session_split.specs.Session.{Piece, session}
 use Rattle.session_split.specs.declared.Split.{Split}
 use Rattle.session_text.specs.Text.{line}

@@ -1,4 +1,5 @@
 -- On a sound board the `w` lines are those of exactly the changed addresses, ascending; and no other text is.
+use Rattle.std.specs.Prelude.{if◌then◌else◌}
 use Prim.Native.Nat.{ℕ, zero, suc, ◌<◌, ◌≤◌}
 use mathlib.Core.Path.{◌≡◌, refl, sym, ap, ◌∙◌, subst⁻¹}
 use mathlib.Core.Logic.{inl, inr, ⊎_elim}
@@ -9,7 +10,7 @@ use lib.Dec.{eqb}
 use native.Mathlib.Omega.{arith}
 use borrow.Author.Tests.{lt-ltb, eqb-false, ne_eqb, not-true}
 use Rattle.memory.specs.declared.Sizes.{Sizes}
-use Rattle.memory.specs.Pieces.{if◌then◌else◌, Memory}
+use Rattle.memory.specs.Pieces.{Memory}
 use Rattle.memory.specs.Sound.{sound}
 use Rattle.memory.specs.Logical.{logical}
 use Rattle.memory.specs.Requests.{look, looked}

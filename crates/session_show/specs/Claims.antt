@@ -1,7 +1,7 @@
 -- What is promised of the lines of a board. proofs/Shows.antt proves it of every sound board, and `play` of every board that it prints.
-use Rattle.std.specs.Prelude.{ℕ, zero, suc, ◌<◌, ◌≡◌, ◌⊎◌, ◌≢◌, List, [], ◌∷◌, ◌++◌, Bool, not, ◌&&◌, eqb}
+use Rattle.std.specs.Prelude.{ℕ, zero, suc, ◌<◌, ◌≡◌, ◌⊎◌, ◌≢◌, List, [], ◌∷◌, ◌++◌, Bool, not, ◌&&◌, eqb, if◌then◌else◌}
 use Rattle.memory.specs.declared.Sizes.{Sizes}
-use Rattle.memory.specs.Pieces.{if◌then◌else◌, Memory}
+use Rattle.memory.specs.Pieces.{Memory}
 use Rattle.memory.specs.Logical.{logical}
 use Rattle.memory.specs.History.{◌∈◌}
 use Rattle.session_text.specs.Text.{word_line}

@@ -1,7 +1,7 @@
 -- §12.6, the lines of a board: one for each address that is not as it was opened.
-use Rattle.std.specs.Prelude.{ℕ, zero, suc, List, [], ◌++◌, ◌&&◌, eqb}
+use Rattle.std.specs.Prelude.{ℕ, zero, suc, List, [], ◌++◌, ◌&&◌, eqb, if◌then◌else◌}
 use Rattle.memory.specs.declared.Sizes.{Sizes}
-use Rattle.memory.specs.Pieces.{if◌then◌else◌, Memory}
+use Rattle.memory.specs.Pieces.{Memory}
 use Rattle.memory.specs.Requests.{look}
 use Rattle.session_text.specs.Text.{word_line}
 

@@ -1,4 +1,5 @@
 -- A whole record before whatever follows: what is split off, its body, and what is left.
+use Rattle.std.specs.Prelude.{if◌then◌else◌}
 use Prim.Native.Nat.{ℕ, ◌+◌, ◌≤◌}
 use mathlib.Core.Path.{◌≡◌, ap, ◌∙◌}
 use mathlib.Core.List.{List, ◌++◌, append_assoc}
@@ -7,7 +8,6 @@ use lib.ListN.{length, length-append}
 use lib.Seq.{take_at, drop_at}
 use native.Mathlib.Omega.{arith}
 use borrow.Author.Tests.{le-ltb, ne_eqb}
-use Rattle.memory.specs.Pieces.{if◌then◌else◌}
 use Rattle.session_marks.specs.Marks.{mark, kind_at}
 use Rattle.session_marks.specs.declared.Kind.{Kind}
 use Rattle.session_marks.specs.declared.Marked.TheVariants.{Known}

@@ -1,8 +1,7 @@
 -- §11, the session file: how a record is split off the bytes that are left, and the whole session as its records.
 pub use Rattle.session_split.specs.declared.Split.{Split}
 pub use Rattle.session_split.specs.declared.Split.TheVariants.{Record, Refused, End}
-use Rattle.std.specs.Prelude.{ℕ, zero, suc, ◌+◌, ◌≡◌, List, [], ◌∷◌, ◌++◌, Bool, true, false, not, ◌&&◌, length, take, drop, ltb, eqb}
-use Rattle.memory.specs.Pieces.{if◌then◌else◌}
+use Rattle.std.specs.Prelude.{ℕ, zero, suc, ◌+◌, ◌≡◌, List, [], ◌∷◌, ◌++◌, Bool, true, false, not, ◌&&◌, length, take, drop, ltb, eqb, if◌then◌else◌}
 use Rattle.session_marks.specs.Marks.{mark, kind_at, opens}
 use Rattle.session_marks.specs.declared.Kind.{Kind}
 use Rattle.session_marks.specs.declared.Marked.{Marked}

@@ -1,4 +1,5 @@
 -- What reading and writing leave in a buffer, and that 35 is told of a short one alone.
+use Rattle.std.specs.Prelude.{if◌then◌else◌}
 use Prim.Native.Nat.{ℕ, ◌<◌, ◌≤◌}
 use mathlib.Core.Path.{◌≡◌, refl}
 use mathlib.Core.Logic.{◌≢◌}
@@ -9,7 +10,6 @@ use lib.ListN.{length, length-append, length-drop}
 use lib.Seq.{take_all}
 use native.Mathlib.Omega.{arith}
 use borrow.Author.Tests.{ltb-true, ltb-false, eqb-false, not-true}
-use Rattle.memory.specs.Pieces.{if◌then◌else◌}
 use Rattle.memory.proofs.Tools.{if_cases}
 use Rattle.session_marks.specs.declared.Kind.{Kind}
 use Rattle.session_split.specs.Session.{session}

@@ -1,4 +1,5 @@
 -- The content of a field, read byte by byte as a mark and as a number, is what the rows say of it at once (§18.5, §18.6).
+use Rattle.std.specs.Prelude.{if◌then◌else◌}
 use Prim.Native.Nat.{ℕ, ◌+◌, ◌*◌, ◌-◌, ◌^◌, ◌≤◌, ◌<◌}
 use mathlib.Core.Path.{◌≡◌, refl, sym, ap, ◌∙◌}
 use mathlib.Core.Logic.{◌⊎◌, inl, inr, ◌≢◌}
@@ -9,7 +10,6 @@ use lib.ListN.{length}
 use native.Mathlib.Nat.{pow-le-pow_right}
 use native.Mathlib.Omega.{arith}
 use borrow.Author.Tests.{ltb-false, lt-ltb, le-ltb, leb-true, ne_eqb}
-use Rattle.memory.specs.Pieces.{if◌then◌else◌}
 use Rattle.memory.proofs.Tools.{if_cases, and_1, same?}
 use Rattle.session_marks.specs.Marks.{mark, kinds, kind_at}
 use Rattle.session_marks.specs.declared.Kind.{Kind}

@@ -1,4 +1,5 @@
 -- How long the session of a text is: what the reader counts is what it has put out.
+use Rattle.std.specs.Prelude.{if◌then◌else◌}
 use Prim.Native.Nat.{ℕ, ◌+◌}
 use mathlib.Core.Path.{◌≡◌, refl}
 use mathlib.Core.List.{List, [], ◌∷◌}
@@ -6,7 +7,6 @@ use mathlib.Core.Bool.{Bool, true, false, not}
 use lib.Dec.{ltb, eqb}
 use lib.ListN.{length, length-append}
 use native.Mathlib.Omega.{arith}
-use Rattle.memory.specs.Pieces.{if◌then◌else◌}
 use Rattle.memory.proofs.Tools.{if_cases}
 use Rattle.session_split.specs.Session.{most_bytes}
 use Rattle.sheet_text.specs.Turn.{Turn, Content, Beside, FieldEnds, LineEnds, Stray, turn, ending}

@@ -1,4 +1,5 @@
 -- A field that is read (§18.3): its content goes into the line, in quotes or without, and no byte of the session comes of it yet.
+use Rattle.std.specs.Prelude.{if◌then◌else◌}
 use Prim.Native.Nat.{ℕ, ◌+◌}
 use mathlib.Core.Path.{◌≡◌, refl, subst}
 use mathlib.Core.Logic.{◌⊎◌, inl, inr, ◌≢◌}
@@ -7,7 +8,6 @@ use mathlib.Core.Bool.{Bool, true, false, not, ◌&&◌, ◌||◌}
 use lib.Dec.{eqb}
 use lib.ListN.{length}
 use borrow.Author.Tests.{eqb-true, not-true, ne_eqb}
-use Rattle.memory.specs.Pieces.{if◌then◌else◌}
 use Rattle.memory.proofs.Tools.{if_cases, and_0, and_1}
 use Rattle.sheet_text.specs.Turn.{Spot, Fresh, Bare, Quoted, Closed, Return, Turn, Content, LineEnds, FieldEnds, Beside, turn, quote, comma, return, newline, leave, bare, ending}
 use Rattle.sheet_text.specs.Line.{Line, with_byte, field_bytes, field_ended}

@@ -1,4 +1,5 @@
 -- The claim `LinesAreRecords`, kept: good rows stand for whole records, and a session of whole records is split into them.
+use Rattle.std.specs.Prelude.{if◌then◌else◌}
 use Prim.Native.Nat.{ℕ, zero, suc, ◌+◌, ◌/◌, ◌≤◌}
 use mathlib.Core.Path.{◌≡◌, refl, sym, ap, ◌∙◌}
 use mathlib.Core.List.{List, [], ◌∷◌, ◌++◌, append_assoc, append-nil}
@@ -7,7 +8,6 @@ use lib.Dec.{ltb, eqb}
 use lib.ListN.{length, take, length-append}
 use native.Mathlib.Omega.{arith}
 use borrow.Author.Tests.{ltb-false, eqb-true, eqb-false, not-true, not-false, le-ltb}
-use Rattle.memory.specs.Pieces.{if◌then◌else◌}
 use Rattle.memory.proofs.Tools.{if_cases}
 use Rattle.session_marks.specs.Marks.{mark}
 use Rattle.session_marks.specs.declared.Kind.{Kind}

@@ -1,4 +1,5 @@
 -- What a row comes to: the reader's number for it is the row's own (§18.8), and the bytes of a good row are its record's.
+use Rattle.std.specs.Prelude.{if◌then◌else◌}
 use Prim.Native.Nat.{ℕ, suc, ◌+◌, ◌-◌, ◌≤◌, ◌<◌}
 use mathlib.Core.Path.{◌≡◌, refl, sym, ap, ◌∙◌}
 use mathlib.Core.List.{List, [], ◌∷◌, ◌++◌, append-nil}
@@ -9,7 +10,6 @@ use lib.Seq.{drop-cons}
 use native.Mathlib.Nat.{add-zero, zero-add}
 use native.Mathlib.Omega.{arith}
 use borrow.Author.Tests.{leb-true, eqb-true, ne_eqb, lt-ltb, ltb-false}
-use Rattle.memory.specs.Pieces.{if◌then◌else◌}
 use Rattle.memory.proofs.Tools.{and_0, and_1}
 use Rattle.session_marks.specs.declared.Kind.{Kind}
 use Rattle.session_marks.specs.declared.Marked.{Marked}

@@ -1,4 +1,5 @@
 -- The fields that are written of a record's body, by the widths of its numbers: what they hold, stand for, and how long they are.
+use Rattle.std.specs.Prelude.{if◌then◌else◌}
 use Prim.Native.Nat.{ℕ, zero, suc, ◌+◌, ◌*◌, ◌^◌, ◌<◌, ◌≤◌}
 use mathlib.Core.Path.{◌≡◌, refl, sym, ap, subst}
 use mathlib.Core.List.{List, [], ◌∷◌, ◌++◌, append_assoc, append-nil}
@@ -9,7 +10,6 @@ use lib.Seq.{length-take-le, take-add, take-suc, drop-drop}
 use native.Mathlib.Nat.{lt_of_lt_of_le}
 use native.Mathlib.Omega.{arith}
 use borrow.Author.Tests.{lt-ltb, ne_eqb, eqb-true}
-use Rattle.memory.specs.Pieces.{if◌then◌else◌}
 use Rattle.memory.proofs.Tools.{and_make}
 use Rattle.session_marks.specs.Marks.{kinds}
 use Rattle.session_marks.specs.declared.Kind.{Kind}

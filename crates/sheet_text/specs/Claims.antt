@@ -1,6 +1,5 @@
 -- What is promised of reading and writing: each statement once, under a name. proofs/Promises.antt proves them.
-use Rattle.std.specs.Prelude.{ℕ, ◌*◌, ◌<◌, ◌≤◌, ◌≡◌, ◌⊎◌, ◌≢◌, List, [], ◌∷◌, ◌++◌, Bool, true, false, length, drop}
-use Rattle.memory.specs.Pieces.{if◌then◌else◌}
+use Rattle.std.specs.Prelude.{ℕ, ◌*◌, ◌<◌, ◌≤◌, ◌≡◌, ◌⊎◌, ◌≢◌, List, [], ◌∷◌, ◌++◌, Bool, true, false, length, drop, if◌then◌else◌}
 use Rattle.memory.specs.History.{◌∈◌}
 use Rattle.session_split.specs.Session.{Piece, misplaced, session, encoded}
 use Rattle.session_split.specs.declared.Split.{Split}

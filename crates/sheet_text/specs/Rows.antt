@@ -1,7 +1,6 @@
 -- A text as RFC 4180 tells it: rows of fields, each bare or in quotes; and what a row asks for, by the content of its fields (§18.5 to
 -- §18.8). The claims are made of these, and not of the reader.
-use Rattle.std.specs.Prelude.{ℕ, ◌+◌, ◌*◌, ◌-◌, ◌^◌, List, [], ◌∷◌, ◌++◌, Bool, true, not, ◌&&◌, ◌||◌, ltb, eqb, length}
-use Rattle.memory.specs.Pieces.{if◌then◌else◌}
+use Rattle.std.specs.Prelude.{ℕ, ◌+◌, ◌*◌, ◌-◌, ◌^◌, List, [], ◌∷◌, ◌++◌, Bool, true, not, ◌&&◌, ◌||◌, ltb, eqb, length, if◌then◌else◌}
 use Rattle.session_marks.specs.Marks.{kind_at}
 use Rattle.session_marks.specs.declared.Kind.{Kind}
 use Rattle.session_marks.specs.declared.Kind.TheVariants.{Open, Start, Commit, Abort, Wait, Step, Read, Write}

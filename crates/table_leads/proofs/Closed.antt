@@ -1,4 +1,5 @@
 -- The ways that sets tell, where one task after the other may be gone through.
+use Rattle.std.specs.Prelude.{if◌then◌else◌}
 use Prim.Native.Nat.{ℕ, suc, ◌<◌, ◌≤◌}
 use mathlib.Core.Path.{◌≡◌, refl, sym, ap, ◌∙◌}
 use mathlib.Core.List.{List}
@@ -6,7 +7,6 @@ use mathlib.Core.Bool.{Bool, true, false, ◌&&◌, ◌||◌}
 use lib.Bits.{bit_or}
 use lib.ListN.{length, get_or}
 use native.Mathlib.Omega.{arith}
-use Rattle.memory.specs.Pieces.{if◌then◌else◌}
 use Rattle.memory.specs.Lists.{has, leads}
 use Rattle.memory.proofs.Leads.{leads_below}
 use Rattle.task_sets.proofs.Bits.{has_or}

@@ -1,7 +1,6 @@
 -- The ways between tasks as the contracts cite them: the sets of the tasks from which a way leads, one for each task.
-use Rattle.std.specs.Prelude.{ℕ, ◌<◌, ◌≤◌, ◌≡◌, List, [], Bool, length, get_or}
+use Rattle.std.specs.Prelude.{ℕ, ◌<◌, ◌≤◌, ◌≡◌, List, [], Bool, length, get_or, if◌then◌else◌}
 use Rattle.std.specs.Int.Bits.{bit_or}
-use Rattle.memory.specs.Pieces.{if◌then◌else◌}
 use Rattle.memory.specs.Lists.{has, leads}
 
 -- task b is on the list of task a, by the fourth number of its row

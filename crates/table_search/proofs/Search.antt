@@ -1,4 +1,5 @@
 -- A search through the first n rows of a run, one at a time, for the first entry that passes a test.
+use Rattle.std.specs.Prelude.{if◌then◌else◌}
 use Prim.Native.Nat.{ℕ, suc, ◌+◌, ◌<◌, ◌≤◌}
 use mathlib.Core.Path.{◌≡◌, ap, sym, ◌∙◌}
 use mathlib.Core.List.{List, [], map}
@@ -8,7 +9,7 @@ use lib.Seq.{drop-cons, get_or-take, length-take-le, drop-length}
 use native.Mathlib.Numerals.{add-one}
 use native.Mathlib.Omega.{arith}
 use Rattle.memory.specs.declared.Entry.{Entry}
-use Rattle.memory.specs.Pieces.{if◌then◌else◌, entry_of}
+use Rattle.memory.specs.Pieces.{entry_of}
 use Rattle.memory.specs.Logical.{index, blank}
 
 -- the entries that the first n rows of a run hold

@@ -1,4 +1,5 @@
 -- Owners and their entries: what the walk marks as owned, and that this is what every record asks.
+use Rattle.std.specs.Prelude.{if◌then◌else◌}
 use Prim.Native.Nat.{ℕ, zero, suc, ◌+◌, ◌%◌, ◌≤◌, ◌<◌}
 use native.Mathlib.Omega.{arith}
 use native.Mathlib.Numerals.{add-one}
@@ -14,7 +15,7 @@ use Rattle.memory.specs.declared.Held.{Held}
 use Rattle.memory.specs.declared.Held.TheVariants.{Version, Owner}
 use Rattle.memory.specs.declared.Place.{Place}
 use Rattle.memory.specs.declared.Entry.{Entry}
-use Rattle.memory.specs.Pieces.{if◌then◌else◌, Memory, steps, held_of, number_of, held, first_owner, place, place_of, entry, limit}
+use Rattle.memory.specs.Pieces.{Memory, steps, held_of, number_of, held, first_owner, place, place_of, entry, limit}
 use Rattle.memory.specs.Sound.{all_below, some_below, counts_from, place_ok, owner_ok, held_ok, task_ok}
 use Rattle.table_parts.specs.Parts.{record_ok}
 use Rattle.table_places.specs.Places.{owns_from}

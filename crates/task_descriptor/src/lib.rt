@@ -2,8 +2,8 @@
 
 #![tactic(auto)]
 
-ghost use Rattle.std.specs.Prelude.{◌≡◌, List, [], ℕ, ◌<◌, ◌≤◌, length, get_or, set};
-ghost use Rattle.memory.specs.Pieces.{if◌then◌else◌, memory, most_words, top_version, position_of, row_of, entry_of, row_of_entry};
+ghost use Rattle.std.specs.Prelude.{◌≡◌, List, [], ℕ, ◌<◌, ◌≤◌, length, get_or, set, if◌then◌else◌};
+ghost use Rattle.memory.specs.Pieces.{memory, most_words, top_version, position_of, row_of, entry_of, row_of_entry};
 ghost use Rattle.memory.specs.Requests as spec;
 ghost use Rattle.task_descriptor.specs.Contract.{rewritten, Within, grown, Addable};
 
