@@ -2,11 +2,9 @@
 use Prim.Native.Nat.{ℕ, suc, ◌+◌, ◌≤◌}
 use mathlib.Core.Path.{◌≡◌, refl}
 use mathlib.Core.Logic.{◌≢◌}
-use mathlib.Core.List.{[], ◌∷◌}
+use mathlib.Core.List.{[]}
 use mathlib.Core.Bool.{Bool, true, false}
 use lib.Dec.{leb}
-use denote.Enum.Declared.{tag_of}
-use types.Run.{OneOf, miss}
 use native.Mathlib.Omega.{arith}
 use borrow.Author.Tests.{leb-true, eq-eqb, ne_eqb}
 use Rattle.memory.proofs.Tools.{if_cases, and_0, and_1}
@@ -14,8 +12,6 @@ use Rattle.session_marks.specs.Marks.{opens}
 use Rattle.session_marks.specs.declared.Kind.{Kind}
 use Rattle.session_marks.specs.declared.Marked.{Marked}
 use Rattle.session_marks.specs.declared.Marked.TheVariants.{Known, Unknown}
-use Rattle.sheet_text.specs.contracts.Letters as letters
-use Rattle.sheet_text.specs.contracts.Digits as digits
 use Rattle.sheet_text.specs.declared.Letters.{Letters}
 use Rattle.sheet_text.specs.declared.Letters.TheVariants.{NoLetter, One, Two, More}
 use Rattle.sheet_text.specs.declared.Digits.{Digits}
@@ -23,22 +19,22 @@ use Rattle.sheet_text.specs.declared.Digits.TheVariants.{NoDigit, Number, Other}
 use Rattle.sheet_text.specs.Line.{add_digit, is_digit, kind_of, letters_of, value_of, fits, numbers_of, verdict_of}
 
 -- other than two letters are no mark
-pub no_mark : (l : Letters) → OneOf (0 ∷ 1 ∷ 3 ∷ []) (tag_of letters.the_type l) → (kind_of l ≡ Unknown) × (letters_of l ≡ [])
+pub no_mark : (l : Letters) → ((a b : ℕ) → l ≡ Two a b → ⊥) → (kind_of l ≡ Unknown) × (letters_of l ≡ [])
 no_mark NoLetter k = (refl, refl)
 no_mark (One a) k = (refl, refl)
-no_mark (Two a b) k = absurd (miss (0 ∷ 1 ∷ 3 ∷ []) 2 tt k)
+no_mark (Two a b) k = absurd (k a b refl)
 no_mark More k = (refl, refl)
 
 -- other than digits are no number
-pub no_number : (d : Digits) → OneOf (0 ∷ 2 ∷ []) (tag_of digits.the_type d) → value_of d ≡ 0
+pub no_number : (d : Digits) → ((n : ℕ) → d ≡ Number n → ⊥) → value_of d ≡ 0
 no_number NoDigit k = refl
-no_number (Number n) k = absurd (miss (0 ∷ 2 ∷ []) 1 tt k)
+no_number (Number n) k = absurd (k n refl)
 no_number Other k = refl
 
 -- where a number is asked, nothing else fits
-pub no_fit : (w : ℕ) (d : Digits) → w ≢ 0 → OneOf (0 ∷ 2 ∷ []) (tag_of digits.the_type d) → fits w d ≡ false
+pub no_fit : (w : ℕ) (d : Digits) → w ≢ 0 → ((n : ℕ) → d ≡ Number n → ⊥) → fits w d ≡ false
 no_fit w NoDigit some k = ne_eqb w 0 some
-no_fit w (Number n) some k = absurd (miss (0 ∷ 2 ∷ []) 1 tt k)
+no_fit w (Number n) some k = absurd (k n refl)
 no_fit w Other some k = refl
 
 -- a byte that is no digit, and one that is

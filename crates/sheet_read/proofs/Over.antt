@@ -4,9 +4,6 @@ use mathlib.Core.Path.{◌≡◌, refl, sym, ap}
 use mathlib.Core.List.{[], ◌∷◌, append-nil}
 use lib.Dec.{eqb}
 use mathlib.Core.Bool.{true, false, false≢true}
-use denote.Enum.Declared.{tag_of}
-use types.Run.{OneOf, miss}
-use Rattle.sheet_text.specs.contracts.Turn as turns
 use Rattle.sheet_text.specs.declared.Turn.{Turn}
 use Rattle.sheet_text.specs.declared.Turn.TheVariants.{Content, Beside, FieldEnds, LineEnds, Stray}
 use Rattle.sheet_text.specs.declared.Reader.{Reader}
@@ -19,14 +16,13 @@ use Rattle.sheet_read.specs.Contract.{ends_line, over_by}
 
 -- whatever is neither content, nor beside it, nor astray ends a field
 pub over : (r : Reader) (t : Turn) (b : ℕ)
-    → OneOf (1 ∷ 2 ∷ 3 ∷ 4 ∷ []) (tag_of turns.the_type t) → OneOf (0 ∷ 2 ∷ 3 ∷ 4 ∷ []) (tag_of turns.the_type t)
-    → OneOf (0 ∷ 1 ∷ 2 ∷ 3 ∷ []) (tag_of turns.the_type t)
+    → ((s : Spot) → t ≡ Content s → ⊥) → ((s : Spot) → t ≡ Beside s → ⊥) → (t ≡ Stray → ⊥)
     → (act r (over_by (ends_line t)) 0 ≡ act r t b) × (act_bytes r (over_by (ends_line t)) ≡ act_bytes r t)
-over r (Content s) b k l m = absurd (miss (1 ∷ 2 ∷ 3 ∷ 4 ∷ []) 0 tt k)
-over r (Beside s) b k l m = absurd (miss (0 ∷ 2 ∷ 3 ∷ 4 ∷ []) 1 tt l)
+over r (Content s) b k l m = absurd (k s refl)
+over r (Beside s) b k l m = absurd (l s refl)
 over r FieldEnds b k l m = (refl, refl)
 over r LineEnds b k l m = (refl, refl)
-over r Stray b k l m = absurd (miss (0 ∷ 1 ∷ 2 ∷ 3 ∷ []) 4 tt m)
+over r Stray b k l m = absurd (m refl)
 
 module _ (r : Reader) (good : r.number ≡ 0) where
   abbrev pub last : Turn
@@ -51,14 +47,14 @@ module _ (r : Reader) (good : r.number ≡ 0) where
       go Return q = λ e. absurd (false≢true e)
 
   -- neither that nor astray: there is no line more
-  pub rests : ends_line last ≡ false → OneOf (0 ∷ 1 ∷ 2 ∷ 3 ∷ []) (tag_of turns.the_type last) → (r ≡ act r last 0) × ([] ≡ act_bytes r last)
+  pub rests : ends_line last ≡ false → (last ≡ Stray → ⊥) → (r ≡ act r last 0) × ([] ≡ act_bytes r last)
   rests e k = go r.spot refl e k
     where
-      go : (s : Spot) → r.spot ≡ s → ends_line (ending s r.line.fields) ≡ false → OneOf (0 ∷ 1 ∷ 2 ∷ 3 ∷ []) (tag_of turns.the_type (ending s r.line.fields))
+      go : (s : Spot) → r.spot ≡ s → ends_line (ending s r.line.fields) ≡ false → (ending s r.line.fields ≡ Stray → ⊥)
           → (r ≡ act r (ending s r.line.fields) 0) × ([] ≡ act_bytes r (ending s r.line.fields))
-      go Fresh q = if_cases (λ t. ends_line t ≡ false → OneOf (0 ∷ 1 ∷ 2 ∷ 3 ∷ []) (tag_of turns.the_type t) → (r ≡ act r t 0) × ([] ≡ act_bytes r t)) (eqb r.line.fields 0) _ _
+      go Fresh q = if_cases (λ t. ends_line t ≡ false → (t ≡ Stray → ⊥) → (r ≡ act r t 0) × ([] ≡ act_bytes r t)) (eqb r.line.fields 0) _ _
           (λ none e k. (ap (λ (s : Spot). reader s r.line r.length r.lines r.number) q, refl)) (λ some e k. absurd (false≢true (sym e)))
       go Bare q = λ e k. absurd (false≢true (sym e))
-      go Quoted q = λ e k. absurd (miss (0 ∷ 1 ∷ 2 ∷ 3 ∷ []) 4 tt k)
+      go Quoted q = λ e k. absurd (k refl)
       go Closed q = λ e k. absurd (false≢true (sym e))
-      go Return q = λ e k. absurd (miss (0 ∷ 1 ∷ 2 ∷ 3 ∷ []) 4 tt k)
+      go Return q = λ e k. absurd (k refl)

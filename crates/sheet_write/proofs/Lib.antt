@@ -1,2 +1,3 @@
 -- Laws that the code's proofs share.
+pub mod Fields
 pub mod Under
