@@ -91,17 +91,15 @@ def outside(path):
 
 def program():
     """The command that runs it, built if need be."""
-    built = subprocess.run(["rt", "check", "try_sheet"], cwd=TOP, stdout=sys.stderr, check=False)
+    # rt builds it by running it; without input it does nothing.
+    words = {"cwd": TOP / "crates/try_sheet", "stdin": subprocess.DEVNULL, "stdout": subprocess.DEVNULL, "stderr": subprocess.PIPE}
+    built = subprocess.run(["rt", "run"], check=False, **words)
     if built.returncode:
+        sys.stderr.buffer.write(built.stderr)
         print("tests/sheet.py: the program could not be built", file=sys.stderr)
         sys.exit(3)
-    made = str(TOP / "target/bin/try_sheet")
-    if os.uname().machine == "x86_64":
-        return [made]
-    doc = subprocess.run(["rt", "doc"], capture_output=True, text=True, check=True).stdout.strip()
-    kit = Path(doc).parent.parent
-    lib = kit / "toolchain/lib"
-    return [kit / f"on/{os.uname().machine}/toolchain/bin/qemu-x86_64", lib / "ld-linux-x86-64.so.2", "--library-path", lib, made]
+    made = str(TOP / "crates/try_sheet/out/try_sheet")
+    return ["bash", "-c", '. "$0"; run_compiled "$@"', str(TOP / "tools/common.sh"), made]
 
 
 class Trial:

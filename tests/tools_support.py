@@ -50,13 +50,14 @@ def verdict():
 # ---- progress, and builds that wait for each other: with a toolchain that only pretends
 
 PRETENDED_RT = """#!/bin/sh
-[ "$1" != doc ] || { echo "$PRETENDED/kit/docs/page"; exit 0; }
+[ "$1" != doc ] || { echo "$PRETENDED/kit/START-HERE.md"; exit 0; }
 echo begin >>"$PRETENDED/log"
 sleep "${PAUSE:-0}"
-echo "rt: memory proved (unchanged since it was last proved)"
-echo "rt: session_text proved (3 s)"
-[ -z "${BREAK:-}" ] || { echo "rt: player NOT PROVED"; echo end >>"$PRETENDED/log"; exit 1; }
-echo "rt: player proved (4 s)"
+echo "crate session_text: modules loaded=3 checked=1"
+echo "logic=proved functions=4"
+echo "crate player: modules loaded=2 checked=1"
+[ -z "${BREAK:-}" ] || { echo "logic=not-proved"; echo end >>"$PRETENDED/log"; exit 1; }
+echo "logic=proved functions=1"
 echo end >>"$PRETENDED/log"
 """
 
@@ -71,10 +72,10 @@ def pretend(room):
     """A repository of its own whose rt proves nothing. Answers it and the environment."""
     top = room / "pretended"
     shutil.copytree(TOP / "tools", top / "tools")
-    (top / "crates.txt").write_text("memory:\nsession_text:  # no needs\nplayer: memory session_text io\nother: memory\n")
+    (top / "crates.txt").write_text("memory:\nsession_text:  # no needs\nplayer: memory session_text\nother: memory\n")
     script(top / "bin/rt", PRETENDED_RT)
     script(top / "bin/uname", '#!/bin/sh\necho "${MACHINE:-x86_64}"\n')
-    script(top / "target/bin/player", "#!/bin/sh\ncat >/dev/null\necho 0 0 0\n")
+    script(top / "crates/player/out/player", "#!/bin/sh\ncat >/dev/null\necho 0 0 0\n")
     script(top / "kit/on/aarch64/toolchain/bin/qemu-x86_64", '#!/bin/sh\necho emulated\nshift 3\nexec "$@"\n')
     mine = {name: value for name, value in os.environ.items() if name != "CHEZUMOBARI_BUILDS"}
     return top, {**mine, "PATH": f"{top}/bin:{os.environ['PATH']}", "PRETENDED": str(top)}
@@ -82,15 +83,15 @@ def pretend(room):
 
 def progress(top, env):
     ended, printed, said = run(["tools/play", "crates.txt"], cwd=top, env=env)
-    announced = "tools/play: proving: 2 of 3 crates are left"
-    lines = [announced, "tools/play: session_text proved (3 s), 1 left", "tools/play: player proved (4 s), 0 left"]
+    announced = "tools/play: proving player and what it stands on, 3 crates in all; those that have not changed are passed over"
+    lines = [announced, "tools/play: session_text is proved", "tools/play: player is proved"]
     same("progress", (ended, printed, said), (0, ["0 0 0"], lines))
     arm = run(["tools/play", "crates.txt"], cwd=top, env={**env, "MACHINE": "aarch64"})
     same("tools/play on Arm, pretended", (arm[0], arm[1]), (0, ["emulated", "0 0 0"]))
     broken = run(["tools/play", "crates.txt"], cwd=top, env={**env, "BREAK": "1"})
     not_built = ["tools/play: the player could not be built"]
     same("a build that fails", (broken[0], broken[1], broken[2][-1:]), (3, [], not_built))
-    same("a build that fails is shown", "rt: player NOT PROVED" in broken[2], True)
+    same("a build that fails is shown", "logic=not-proved" in broken[2], True)
     (top / "bin/rt").rename(top / "bin/hidden")
     none = {**env, "PATH": f"{top}/bin:/usr/bin:/bin"}
     missing = "tools/play: rt is not installed: it is the command of Rattle's toolchain"
@@ -118,15 +119,19 @@ def wait_for_each_other(top, env):
 def gate(top, env):
     """The gate stops at a part that fails, and if none does it ends with the verdict of rt. Its parts only pretend here."""
     shutil.copytree(TOP / ".ci", top / ".ci")
-    script(top / "bin/rt", '#!/bin/sh\necho "rt $*"\necho "${VERDICT:-3 passed, 0 failed}"\n[ -z "${VERDICT:-}" ]\n')
+    script(top / "bin/rt", '#!/bin/sh\necho "rt $*"\necho "rt: ok: all; must-fail edits: 5 refused${BAD:-}"\necho "${VERDICT:-3 passed, 0 failed}"\n[ -z "${VERDICT:-}" ]\n')
     script(top / "tools/embed", '#!/bin/sh\necho embedded\nexit "${EMBED:-0}"\n')
     script(top / "tests/tools.py", '#!/bin/sh\necho tried\nexit "${TOOLS:-0}"\n')
     script(top / "tests/sheet.py", '#!/bin/sh\necho compared\nexit "${SHEET:-0}"\n')
-    for change, status, lines in (
-        ({}, 0, ["rt ci", "3 passed, 0 failed", "embedded", "tried", "compared", "3 passed, 0 failed"]),
-        ({"EMBED": "1"}, 1, ["rt ci", "3 passed, 0 failed", "embedded"]),
-        ({"TOOLS": "1"}, 1, ["rt ci", "3 passed, 0 failed", "embedded", "tried"]),
-        ({"SHEET": "1"}, 1, ["rt ci", "3 passed, 0 failed", "embedded", "tried", "compared"]),
-        ({"VERDICT": "2 passed, 1 failed"}, 1, ["rt ci", "2 passed, 1 failed"]),
+    proved = ["rt ci", "rt: ok: all; must-fail edits: 5 refused", "3 passed, 0 failed"]
+    bad = ["rt ci", "rt: ok: all; must-fail edits: 5 refused, 1 bad", "3 passed, 0 failed"]
+    not_fit = [".ci/run: a must-fail edit does not fit its file any more"]
+    for change, status, lines, said in (
+        ({}, 0, [*proved, "embedded", "tried", "compared", "3 passed, 0 failed"], []),
+        ({"EMBED": "1"}, 1, [*proved, "embedded"], []),
+        ({"TOOLS": "1"}, 1, [*proved, "embedded", "tried"], []),
+        ({"SHEET": "1"}, 1, [*proved, "embedded", "tried", "compared"], []),
+        ({"BAD": ", 1 bad"}, 3, bad, not_fit),
+        ({"VERDICT": "2 passed, 1 failed"}, 1, [proved[0], proved[1], "2 passed, 1 failed"], []),
     ):
-        same(f".ci/run with {change}", run([".ci/run"], cwd=top, env={**env, **change}), (status, lines, []))
+        same(f".ci/run with {change}", run([".ci/run"], cwd=top, env={**env, **change}), (status, lines, said))

@@ -12,7 +12,7 @@ give_up() { say "$*"; exit 3; }
 needs() { command -v "$1" >/dev/null || give_up "$1 is not installed: $2"; }
 needs_rt() { needs rt "it is the command of Rattle's toolchain"; }
 
-# One build at a time. The lock is on the repository's folder itself: `rt ci` removes target/, and a lock file in it.
+# One build at a time. The lock is on the repository's folder itself, so that nothing that a tool removes takes a lock file with it.
 # A tool that another one starts is part of that one's build.
 take_turn() {
     [ -z "${CHEZUMOBARI_BUILDS:-}" ] || return 0
@@ -38,25 +38,25 @@ crates_under() { # CRATE
         END { visit(wanted); print count + 0 }' crates.txt
 }
 
-# Runs rt, and says on standard error what it proves: a line for each crate, with how many are left. What has not changed
-# is not proved again and not spoken of. If rt fails, all that it printed is shown.
+# Runs rt in a crate's folder, and says on standard error what it proves: a line for each crate. What has not changed is not
+# proved again and not spoken of. If rt fails, all that it printed is shown.
 prove() { # CRATE WORDS-FOR-RT..
-    local line status=1 left all pause=2 began=$SECONDS log=target/${tool##*/}.log
-    all=$(crates_under "$1") left=$all
+    local crate=$1 line status=1 all said='' pause=2 began=$SECONDS log=$PWD/target/${tool##*/}.log
+    all=$(crates_under "$crate")
     shift
     mkdir -p target
     : >"$log"
-    exec 8< <(rt "$@" </dev/null 9<&- 2>&1 && echo 'ended 0' || echo "ended $?")
+    exec 8< <(cd "crates/$crate" && rt "$@" </dev/null 9<&- 2>&1 && echo 'ended 0' || echo "ended $?")
     while true; do
         if IFS= read -r -t "$pause" line <&8; then
             printf '%s\n' "$line" >>"$log"
             case $line in
             'ended '*) status=${line#ended }; break ;;
-            'rt: '*' proved (unchanged'*) left=$((left - 1)) ;;
-            'rt: '*' proved ('*) announce; left=$((left - 1)); say "${line#rt: }, $left left" ;;
+            'crate '*': '*) said=${line#crate } said=${said%%:*} ;;
+            'logic=proved'*) announce; say "$said is proved" ;;
             esac
         elif [ $? -gt 128 ]; then
-            if [ "$pause" = 2 ]; then announce; else say "still proving, $((SECONDS - began)) s so far, $left left"; fi
+            if [ "$pause" = 2 ]; then announce; else say "still proving, $((SECONDS - began)) s so far"; fi
         else
             break
         fi
@@ -72,16 +72,23 @@ announce() {
     [ "$pause" = 2 ] || return 0
     pause=20
     local long=''
-    [ "$left" -lt 6 ] || long=', which takes some minutes'
-    say "proving: $left of $all crates are left$long"
+    [ "$all" -lt 6 ] || long=', which takes some minutes the first time'
+    say "proving $crate and what it stands on, $all crates in all$long; those that have not changed are passed over"
 }
 
-kit() { dirname "$(dirname "$(rt doc)")"; }
+kit() { dirname "$(rt doc)"; }
 
-# Runs a program that the toolchain compiled. It is for x86-64: on another processor the toolchain's emulator runs it.
+# The emulator of x86-64: the toolchain's for this processor, or else Debian's (its package qemu-user).
+emulator() {
+    local own
+    own=$(kit)/on/$(uname -m)/toolchain/bin/qemu-x86_64
+    if [ -x "$own" ]; then printf '%s\n' "$own"; else command -v qemu-x86_64 || give_up 'no emulator of x86-64 is installed: qemu-user has one'; fi
+}
+
+# Runs a program that the toolchain compiled. It is for x86-64: on another processor an emulator runs it.
 run_compiled() { # PROGRAM ARGUMENTS..
     if [ "$(uname -m)" = x86_64 ]; then "$@"; return; fi
     local lib
     lib=$(kit)/toolchain/lib
-    "$(kit)/on/$(uname -m)/toolchain/bin/qemu-x86_64" "$lib/ld-linux-x86-64.so.2" --library-path "$lib" "$@"
+    "$(emulator)" "$lib/ld-linux-x86-64.so.2" --library-path "$lib" "$@"
 }

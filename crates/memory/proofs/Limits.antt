@@ -2,7 +2,7 @@
 -- in specs/Pieces, in the claims that name them, and in the positions.
 pub use Rattle.memory.specs.Pieces.{most_rows}
 use Prim.Native.Nat.{ℕ, zero, suc, ◌+◌, ◌*◌, ◌<◌, ◌≤◌}
-use mathlib.Core.Path.{◌≡◌, refl, ap, ◌∙◌}
+use mathlib.Core.Path.{◌≡◌, refl}
 use mathlib.Core.Logic.{◌⊎◌, inl, inr, ◌≢◌}
 use mathlib.Core.Bool.{Bool, true, false}
 use lib.Dec.{ltb}

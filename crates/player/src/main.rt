@@ -5,8 +5,9 @@
 ghost use Rattle.std.specs.Prelude.{◌≡◌, length};
 ghost use Rattle.session_play.specs.Claims.{most_text};
 
-use libc::{STDIN_FILENO, STDOUT_FILENO};
+use program_input::read_full;
 use session_play::Played;
+use std::io;
 
 // §12.1: one byte past the longest session, to tell 14.
 fn room_for_session() -> [u8; 60001] {
@@ -21,14 +22,15 @@ fn room_for_text() -> [u8; session_play::MOST_TEXT]
 }
 
 // Prints the text, which was written whole if there was room for it.
-fn print(text: &[u8], length: usize) {
+fn print(rt: &impl Print, text: &[u8], length: usize) -> io::Result<()> {
     if length <= text.len() {
-        io::write_all(STDOUT_FILENO, &text[..length]);
+        rt.write_all(&text[..length])?;
     }
+    Ok(())
 }
 
 // Plays what was read, on tables of the largest sizes.
-fn play_session(session: &[u8], text: &mut [u8]) {
+fn play_session(rt: &impl Print, session: &[u8], text: &mut [u8]) -> io::Result<()> {
     let mut words = [0u32; memory::MOST_WORDS];
     let mut records = [0u32; memory::MOST_RECORDS];
     let mut places = [[0u32; memory::PLACE_WIDTH]; memory::MOST_TASKS];
@@ -42,14 +44,14 @@ fn play_session(session: &[u8], text: &mut [u8]) {
         text,
     );
     let Played::Whole(length) = played else {
-        return;
+        return Ok(());
     };
-    print(text, length);
+    print(rt, text, length)
 }
 
-fn main() {
+fn main(rt: HostRuntime) -> io::Result<()> {
     let mut session = room_for_session();
     let mut text = room_for_text();
-    let length = io::read_full(STDIN_FILENO, &mut session);
-    play_session(&session[..length], &mut text);
+    let length = read_full(&mut rt.reader(), &mut session)?;
+    play_session(&rt, &session[..length], &mut text)
 }

@@ -3,10 +3,14 @@
 
 #![tactic(auto)]
 
+ghost use Rattle.std.specs.Prelude.{◌≡◌, IfOk, length};
 ghost use Rattle.sheet_text.specs.Read.{Small};
 
-use libc::{STDERR_FILENO, STDIN_FILENO, STDOUT_FILENO};
+use program_input::read_full;
 use sheet_text::{Answer, Reader};
+use std::io;
+use std::io::Read;
+use std::rt::Env;
 
 // A text so far, and whether more of it may follow.
 #[derive(Clone, Copy)]
@@ -16,90 +20,92 @@ struct Fed {
 }
 
 // Says a refusal: good lines, blank, number.
-fn complain(lines: usize, number: u32) {
-    io::print_decimal(STDERR_FILENO, lines as u64);
-    io::write_all(STDERR_FILENO, b" ");
-    io::print_decimal(STDERR_FILENO, number as u64);
-    io::write_all(STDERR_FILENO, b"\n");
+fn complain(rt: &impl Eprint, lines: usize, number: u32) -> io::Result<()> {
+    eprintln!(rt; "{lines} {number}")
 }
 
 // Prints the first bytes of a buffer, or the refusal.
-fn print(answer: Answer, buffer: &[u8]) {
+fn print(rt: &(impl Print + Eprint), answer: Answer, buffer: &[u8]) -> io::Result<()> {
     if answer.number != 0 {
-        complain(answer.lines, answer.number);
-        return;
+        return complain(rt, answer.lines, answer.number);
     }
     let length = answer.length;
     if length <= buffer.len() {
-        io::write_all(STDOUT_FILENO, &buffer[..length]);
+        rt.write_all(&buffer[..length])?;
     }
+    Ok(())
 }
 
-// Reads a part of the text. A text of any length goes through this buffer.
-fn feed_some(reader: Reader, session: &mut [u8]) -> Fed
-    requires { Small reader }
-    ensures { Small result.reader }
+// A text of any length goes through this buffer.
+fn room_for_part() -> [u8; 65536]
+    ensures { length result ≡ 65536 }
 {
-    let mut part = io::large_buffer();
-    let got = io::read_full(STDIN_FILENO, &mut part);
+    [0u8; 65536]
+}
+
+// Reads a part of the text.
+fn feed_some<I: Read>(from: &mut I, reader: Reader, session: &mut [u8]) -> io::Result<Fed>
+    requires { Small reader }
+    ensures { IfOk result (λ fed. Small fed.reader) }
+{
+    let mut part = room_for_part();
+    let got = read_full(from, &mut part)?;
     let next = sheet_read::feed(reader, &part[..got], session);
-    Fed {
+    Ok(Fed {
         reader: next,
         more: got == part.len(),
-    }
+    })
 }
 
-// Reads the whole text. A proved loop has to end, and nothing says that an input does: so the loop counts its turns down, from a number
-// that no run uses up.
-fn read_all(session: &mut [u8]) -> Reader
-    ensures { Small result }
+// Reads the whole text. A proved loop has to end, and nothing says that an input does: so the loop has a number of turns that no run
+// uses up.
+fn read_all<I: Read>(from: &mut I, session: &mut [u8]) -> io::Result<Reader>
+    ensures { IfOk result (λ reader. Small reader) }
 {
     let mut reader = sheet_read::begin();
-    let mut turns = u64::MAX;
-    while 0 < turns {
-        let fed = feed_some(reader, session);
+    for _ in 0..u64::MAX {
+        let fed = feed_some(from, reader, session)?;
         reader = fed.reader;
         if !fed.more {
-            return reader;
+            break;
         }
-        turns = turns - 1;
     }
-    reader
+    Ok(reader)
 }
 
 // From text to session. Text is read once, since the room is that of the longest session.
-fn to_session() {
+fn to_session(rt: &(impl Input + Print + Eprint)) -> io::Result<()> {
     let mut session = [0u8; session_split::MOST_BYTES];
-    let reader = read_all(&mut session);
+    let reader = read_all(&mut rt.reader(), &mut session)?;
     let known = sheet_read::finish(reader, &mut session);
     let answer = Answer {
         number: known.number,
         length: known.length,
         lines: known.lines,
     };
-    print(answer, &session);
+    print(rt, answer, &session)
 }
 
 // From session to text. No text is longer than four times its session, by `WrittenIsShort` in crates/sheet_text. One byte past the
 // longest session tells 14.
-fn to_text() {
+fn to_text(rt: &(impl Input + Print + Eprint)) -> io::Result<()> {
     let mut session = [0u8; 60001];
     let mut text = [0u8; 240000];
-    let length = io::read_full(STDIN_FILENO, &mut session);
+    let length = read_full(&mut rt.reader(), &mut session)?;
     let answer = sheet_write::write(&session[..length], &mut text);
-    print(answer, &text);
+    print(rt, answer, &text)
 }
 
 // The first argument is `read` or `write`; tools/sheet gives no other.
-fn main() {
-    let mut word = io::buffer();
-    let length = os::arg(1, &mut word);
+fn main(rt: HostRuntime) -> io::Result<()> {
+    let mut word = [0u8; 4096];
+    let length = rt.arg(1, &mut word).unwrap_or(0);
     if length == 0 {
-        return;
+        return Ok(());
     }
     if word[0] == b'w' {
-        to_text();
+        to_text(&rt)
     } else {
-        to_session();
+        to_session(&rt)
     }
 }

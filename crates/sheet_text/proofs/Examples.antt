@@ -1,7 +1,6 @@
 -- Texts and sessions small enough to compute, with what they come to.
 use mathlib.Core.Path.{◌≡◌, refl}
-use mathlib.Core.List.{List, [], ◌∷◌}
-use Prim.Native.Nat.{ℕ}
+use mathlib.Core.List.{[], ◌∷◌}
 use Rattle.session_text.specs.Text.{digits, last_digits}
 use Rattle.session_marks.specs.Marks.{begins, kind_among, kind_at}
 use Rattle.session_fields.specs.Fields.{little_endian, number_at}

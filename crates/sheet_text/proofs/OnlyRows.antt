@@ -119,8 +119,8 @@ every_text_divides text = divide (suc (length text)) text (omega arith)
 
 -- rows, and a row more
 rows_ok_snoc : (rows : List Row) (r : Row) → rows_ok rows ≡ true → row_ok r ≡ true → rows_ok (rows ++ (r ∷ [])) ≡ true
-rows_ok_snoc [] r ok row_ok = and_make row_ok refl
-rows_ok_snoc (q ∷ rows) r ok row_ok = and_make (and_0 (row_ok q) (rows_ok rows) ok) (rows_ok_snoc rows r (and_1 (row_ok q) (rows_ok rows) ok) row_ok)
+rows_ok_snoc [] r ok row_is_ok = and_make row_is_ok refl
+rows_ok_snoc (q ∷ rows) r ok row_is_ok = and_make (and_0 (row_ok q) (rows_ok rows) ok) (rows_ok_snoc rows r (and_1 (row_ok q) (rows_ok rows) ok) row_is_ok)
 
 module _ (text : List ℕ) (e : (read_of text).number ≡ 0) (d : Divided text) where
   read_so : (read_of (rows_text d.rows ++ d.rest)).number ≡ 0
@@ -132,11 +132,11 @@ module _ (text : List ℕ) (e : (read_of text).number ≡ 0) (d : Divided text) 
   not_astray astray (inr bad) = bad (sym (first_fault_decides d.rows d.rest d.ok bad) ∙ read_so)
 
   rows_of : LastRow d.rest ⊎ Astray d.rest → IsRows text
-  rows_of (inl (r, row_ok, is)) =
+  rows_of (inl (r, row_is_ok, is)) =
       let ends = return ∷ newline ∷ [] in
       record {
         rows = d.rows ++ (r ∷ []);
-        ok = rows_ok_snoc d.rows r d.ok row_ok;
+        ok = rows_ok_snoc d.rows r d.ok row_is_ok;
         is = inr (ap (λ (t : List ℕ). t ++ ends) d.is ∙ rw (is, append_assoc, rows_snoc d.rows r));
       }
   rows_of (inr astray) = absurd (not_astray astray (same? (rows_number 0 d.rows) 0))

@@ -124,18 +124,18 @@ unfolding rows_text rows_number pieces_of
 came [] n i ok = record { at = start n i; bytes = []; goes = goes_nowhere _; number = refl; good = λ e. (rw (add-zero n, add-zero i), refl) }
 came (r ∷ rs) n i ok = go (eqb (row_number r) 0) refl (ltb most_bytes (n + row_length r)) refl (came rs (n + row_length r) (i + 1) (and_1 (row_ok r) (rows_ok rs) ok))
   where
-    row_ok : row_ok r ≡ true
-    row_ok = and_0 (row_ok r) (rows_ok rs) ok
+    row_ok_lem : row_ok r ≡ true
+    row_ok_lem = and_0 (row_ok r) (rows_ok rs) ok
 
     go : (a : Bool) → eqb (row_number r) 0 ≡ a → (b : Bool) → ltb most_bytes (n + row_length r) ≡ b → Came (n + row_length r) (i + 1) rs → Came n i (r ∷ rs)
     go false p b q later =
         let some = eqb-false (row_number r) 0 p in
-        refusing n i r rs row_ok (row_number r) some (faulty_row n i r some) (rw p)
+        refusing n i r rs row_ok_lem (row_number r) some (faulty_row n i r some) (rw p)
     go true p true q later =
-        refusing n i r rs row_ok 34 (λ e. omega arith) (long_row n i r (eqb-true (row_number r) 0 p) q) (rw (p, q))
+        refusing n i r rs row_ok_lem 34 (λ e. omega arith) (long_row n i r (eqb-true (row_number r) 0 p) q) (rw (p, q))
     go true p false q later =
         let fine = eqb-true (row_number r) 0 p in
-        passing n i r rs row_ok fine (good_row n i r fine q) (rw (p, q)) later
+        passing n i r rs row_ok_lem fine (good_row n i r fine q) (rw (p, q)) later
 
 -- Whole texts --------------------------------------------------------------------------------------------------------------------------
 
@@ -190,7 +190,7 @@ refused-ends rows ok bad rest =
     goes_and_rests (goes_on c.goes (refused_goes c.at refused rest)) (refused_rests c.at refused)
 
 pub last_may_lack_its_end : LastMayLackItsEnd
-last_may_lack_its_end rows r ok row_ok some = rw (rows_snoc rows r) (go (same? (rows_number 0 rows) 0))
+last_may_lack_its_end rows r ok row_is_ok some = rw (rows_snoc rows r) (go (same? (rows_number 0 rows) 0))
   where
     go : (rows_number 0 rows ≡ 0) ⊎ (rows_number 0 rows ≢ 0)
         → ((read_of (rows_text rows ++ row_text r)).number ≡ (read_of (rows_text rows ++ (row_text r ++ (return ∷ newline ∷ [])))).number)
@@ -198,7 +198,7 @@ last_may_lack_its_end rows r ok row_ok some = rw (rows_snoc rows r) (go (same? (
     go (inl fine) =
         let c = came rows 0 0 ok in
         let before = rw (c.good fine).0 at c.goes in
-        alike (ends-after before (row_ends _ _ r row_ok some)) (goes_and_rests (goes_on before (row_goes _ _ r row_ok)) (line_rests _ _ _))
+        alike (ends-after before (row_ends _ _ r row_is_ok some)) (goes_and_rests (goes_on before (row_goes _ _ r row_is_ok)) (line_rests _ _ _))
     go (inr bad) = alike (refused-ends rows ok bad (row_text r)) (refused-ends rows ok bad (row_text r ++ (return ∷ newline ∷ [])))
 
 pub first_fault_decides : FirstFaultDecides

@@ -15,7 +15,7 @@ use Rattle.session_marks.specs.declared.Marked.{Marked}
 use Rattle.session_marks.specs.declared.Marked.TheVariants.{Known, Unknown}
 use Rattle.session_fields.specs.Fields.{total, widths, body_length}
 use Rattle.session_fields.proofs.Table.{every}
-use Rattle.session_split.specs.Session.{Piece, Session, most_bytes, misplaced, too_long, split, body, split_all, session, encoded}
+use Rattle.session_split.specs.Session.{Piece, Session, most_bytes, misplaced, too_long, split, split_all, session, encoded}
 use Rattle.session_split.specs.declared.Split.TheVariants.{Record, Refused, End}
 use Rattle.session_split.proofs.Cases.{refused-apart, end_apart}
 use Rattle.session_split.proofs.Rest.{nothing-split}

@@ -77,8 +77,8 @@ module _ (p : Piece) (h : Whole p) where
   row_pieces : piece_as (kind_of_content (mark p.kind)) (row_of p).others ≡ p ∷ []
   row_pieces = rw (mark-known p.kind, body_back)
 
-  row_ok : row_ok (row_of p) ≡ true
-  row_ok = and_make (mark-plain p.kind) written.ok
+  row_ok_lem : row_ok (row_of p) ≡ true
+  row_ok_lem = and_make (mark-plain p.kind) written.ok
 
 line_row : (p : Piece) → line_text p ≡ row_text (row_of p) ++ (return ∷ newline ∷ [])
 unfolding line_text row_text cell_text
@@ -105,7 +105,7 @@ rows_bare (p ∷ ps) h = and_make (written p h.0).bare (rows_bare ps h.1)
 
 rows_ok_lem : (ps : List Piece) → AllWhole ps → rows_ok (rows_of ps) ≡ true
 rows_ok_lem [] h = refl
-rows_ok_lem (p ∷ ps) h = and_make (row_ok p h.0) (rows_ok_lem ps h.1)
+rows_ok_lem (p ∷ ps) h = and_make (row_ok_lem p h.0) (rows_ok_lem ps h.1)
 
 rows_pieces : (ps : List Piece) → AllWhole ps → pieces_of (rows_of ps) ≡ ps
 unfolding pieces_of

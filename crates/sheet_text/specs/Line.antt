@@ -4,7 +4,7 @@ pub use Rattle.sheet_text.specs.declared.Letters.TheVariants.{NoLetter, One, Two
 pub use Rattle.sheet_text.specs.declared.Digits.{Digits}
 pub use Rattle.sheet_text.specs.declared.Digits.TheVariants.{NoDigit, Number, Other}
 pub use Rattle.sheet_text.specs.declared.Line.{Line}
-use Rattle.std.specs.Prelude.{ℕ, zero, suc, ◌+◌, ◌*◌, ◌-◌, ◌/◌, ◌%◌, ◌^◌, List, [], ◌∷◌, Bool, true, false, not, ◌&&◌, ◌||◌, ltb, leb, eqb}
+use Rattle.std.specs.Prelude.{ℕ, zero, suc, ◌+◌, ◌*◌, ◌-◌, ◌/◌, ◌%◌, ◌^◌, List, [], ◌∷◌, Bool, false, not, ◌&&◌, ◌||◌, ltb, leb, eqb}
 use Rattle.memory.specs.Pieces.{if◌then◌else◌}
 use Rattle.session_marks.specs.Marks.{kind_at, opens}
 use Rattle.session_marks.specs.declared.Kind.{Kind}

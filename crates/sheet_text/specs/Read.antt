@@ -1,7 +1,7 @@
 -- §18.4, §18.8 and §18.9: a text read byte by byte, and what reading it answers.
 pub use Rattle.sheet_text.specs.declared.Reader.{Reader}
 pub use Rattle.sheet_text.specs.declared.Answer.{Answer}
-use Rattle.std.specs.Prelude.{ℕ, suc, ◌+◌, ◌*◌, ◌≤◌, List, [], ◌∷◌, ◌++◌, Bool, true, false, not, ltb, eqb, length}
+use Rattle.std.specs.Prelude.{ℕ, ◌+◌, ◌*◌, ◌≤◌, List, [], ◌∷◌, ◌++◌, not, ltb, eqb, length}
 use Rattle.memory.specs.Pieces.{if◌then◌else◌}
 use Rattle.session_marks.specs.declared.Marked.{Marked}
 use Rattle.session_marks.specs.declared.Marked.TheVariants.{Known, Unknown}

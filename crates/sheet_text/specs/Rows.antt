@@ -1,14 +1,14 @@
 -- A text as RFC 4180 tells it: rows of fields, each bare or in quotes; and what a row asks for, by the content of its fields (§18.5 to
 -- §18.8). The claims are made of these, and not of the reader.
-use Rattle.std.specs.Prelude.{ℕ, zero, suc, ◌+◌, ◌*◌, ◌-◌, ◌^◌, ◌≡◌, List, [], ◌∷◌, ◌++◌, Bool, true, false, not, ◌&&◌, ◌||◌, ltb, eqb, length}
+use Rattle.std.specs.Prelude.{ℕ, ◌+◌, ◌*◌, ◌-◌, ◌^◌, List, [], ◌∷◌, ◌++◌, Bool, true, not, ◌&&◌, ◌||◌, ltb, eqb, length}
 use Rattle.memory.specs.Pieces.{if◌then◌else◌}
-use Rattle.session_marks.specs.Marks.{mark, kind_at}
+use Rattle.session_marks.specs.Marks.{kind_at}
 use Rattle.session_marks.specs.declared.Kind.{Kind}
 use Rattle.session_marks.specs.declared.Kind.TheVariants.{Open, Start, Commit, Abort, Wait, Step, Read, Write}
 use Rattle.session_marks.specs.declared.Marked.{Marked}
 use Rattle.session_marks.specs.declared.Marked.TheVariants.{Known, Unknown}
 use Rattle.session_fields.specs.Fields.{widths}
-use Rattle.session_split.specs.Session.{Piece, piece, most_bytes, record_length, encoded}
+use Rattle.session_split.specs.Session.{Piece, piece, most_bytes, encoded}
 use Rattle.sheet_text.specs.Turn.{quote, comma, return, newline}
 use Rattle.sheet_text.specs.Line.{little}
 

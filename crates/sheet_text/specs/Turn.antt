@@ -3,7 +3,7 @@ pub use Rattle.sheet_text.specs.declared.Spot.{Spot}
 pub use Rattle.sheet_text.specs.declared.Spot.TheVariants.{Fresh, Bare, Quoted, Closed, Return}
 pub use Rattle.sheet_text.specs.declared.Turn.{Turn}
 pub use Rattle.sheet_text.specs.declared.Turn.TheVariants.{Content, Beside, FieldEnds, LineEnds, Stray}
-use Rattle.std.specs.Prelude.{ℕ, Bool, true, ◌||◌, eqb}
+use Rattle.std.specs.Prelude.{ℕ, Bool, ◌||◌, eqb}
 use Rattle.memory.specs.Pieces.{if◌then◌else◌}
 
 -- §18.2: the four bytes that mean something.

@@ -1,4 +1,2 @@
 -- Laws that the proofs share.
-mod Freed
-mod Passed
 mod Whole

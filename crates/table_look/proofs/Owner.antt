@@ -14,7 +14,7 @@ use Rattle.memory.specs.declared.Seen.{Seen}
 use Rattle.memory.specs.declared.Place.{Place}
 use Rattle.memory.specs.declared.Entry.{Entry}
 use Rattle.memory.specs.declared.Held.TheVariants.{Owner}
-use Rattle.memory.specs.Pieces.{Memory, entry_of, held, place, run_start, run, entry, entries, committed}
+use Rattle.memory.specs.Pieces.{Memory, entry_of, held, place, run_start, run, entry, committed}
 use Rattle.memory.specs.Logical.{index_of, index_on, blank, shows, owned_at, logical_at, logical}
 use Rattle.memory.specs.Sound.{sound}
 use Rattle.memory.proofs.Tools.{in_get_or}

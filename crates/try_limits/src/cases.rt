@@ -4,6 +4,7 @@ use crate::line::Line;
 use crate::telling::{say, say_line, say_named, tell};
 use crate::{board, line, marks};
 use memory::{Call, Looked};
+use std::io;
 use std::num::{wrapping_add_u32, wrapping_sub_usize};
 use try_serial::asked::{AnyCall, Lent};
 
@@ -23,19 +24,20 @@ fn asked(call: AnyCall, task: usize, lent: Lent, rows: &mut [u32]) -> Seen {
 }
 
 // A call that prepares a case is to answer 0.
-fn prepare(call: AnyCall, lent: Lent, rows: &mut [u32]) {
+fn prepare(rt: &impl Print, call: AnyCall, lent: Lent, rows: &mut [u32]) -> io::Result<()> {
     let seen = board::ask(call, lent, rows);
     if seen.number != 0 {
-        say_line(b"a call that prepares a case: ", seen.number);
+        say_line(rt, b"a call that prepares a case: ", seen.number)?;
     }
+    Ok(())
 }
 
 // What the last address of a board holds that was just opened.
-fn say_last(lent: Lent, rows: &mut [u32]) {
+fn say_last(rt: &impl Print, lent: Lent, rows: &mut [u32]) -> io::Result<()> {
     let last = AnyCall::Look(wrapping_sub_usize(lent.words, 1));
     let held = board::ask(last, lent, rows);
-    say_named(b", its last address: value ", held.value);
-    say_line(b", version ", held.version);
+    say_named(rt, b", its last address: value ", held.value)?;
+    say_line(rt, b", version ", held.version)
 }
 
 fn opened(call: AnyCall, number: u32) -> bool {
@@ -45,35 +47,54 @@ fn opened(call: AnyCall, number: u32) -> bool {
     }
 }
 
-fn case(call: AnyCall, task: usize, lent: Lent, rows: &mut [u32]) {
+fn case(
+    rt: &impl Print,
+    call: AnyCall,
+    task: usize,
+    lent: Lent,
+    rows: &mut [u32],
+) -> io::Result<()> {
     let seen = asked(call, task, lent, rows);
     let looked = seen.looked;
-    tell(call, looked, seen.changed);
+    tell(rt, call, looked, seen.changed)?;
     if opened(call, looked.number) {
-        say_last(lent, rows);
+        say_last(rt, lent, rows)
     } else {
-        say(b"\n");
+        say(rt, b"\n")
     }
 }
 
 // A case on a board that was spoiled. Then the sound one is put back, and the number is told that the same call answers there.
-fn spoiled(call: AnyCall, task: usize, lent: Lent, rows: &mut [u32]) {
+fn spoiled(
+    rt: &impl Print,
+    call: AnyCall,
+    task: usize,
+    lent: Lent,
+    rows: &mut [u32],
+) -> io::Result<()> {
     let seen = asked(call, task, lent, rows);
-    tell(call, seen.looked, seen.changed);
+    tell(rt, call, seen.looked, seen.changed)?;
     board::put_back(rows);
     let before = board::ask(call, lent, rows);
-    say_line(b"; before that ", before.number);
+    say_line(rt, b"; before that ", before.number)?;
     board::put_back(rows);
+    Ok(())
 }
 
 // The call of a line.
-pub fn call(line: Line, call: AnyCall, lent: Lent, rows: &mut [u32]) {
+pub fn call(
+    rt: &impl Print,
+    line: Line,
+    call: AnyCall,
+    lent: Lent,
+    rows: &mut [u32],
+) -> io::Result<()> {
     let task = marks::task_of(line);
     let told = line.told;
     match told {
-        line::SPOILED => spoiled(call, task, lent, rows),
-        line::CASE => case(call, task, lent, rows),
-        _ => prepare(call, lent, rows),
+        line::SPOILED => spoiled(rt, call, task, lent, rows),
+        line::CASE => case(rt, call, task, lent, rows),
+        _ => prepare(rt, call, lent, rows),
     }
 }
 
@@ -90,6 +111,6 @@ fn accepted(task: usize, lent: Lent, rows: &mut [u32]) -> u32 {
     count
 }
 
-pub fn fill(task: usize, lent: Lent, rows: &mut [u32]) {
-    say_line(b"addresses accepted: ", accepted(task, lent, rows));
+pub fn fill(rt: &impl Print, task: usize, lent: Lent, rows: &mut [u32]) -> io::Result<()> {
+    say_line(rt, b"addresses accepted: ", accepted(task, lent, rows))
 }

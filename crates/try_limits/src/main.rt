@@ -10,18 +10,19 @@ mod marks;
 mod play;
 mod telling;
 
-use libc::STDIN_FILENO;
+use program_input::read_full;
+use std::io;
 
 // One byte past the longest script.
 fn room_for_script() -> [u8; 16385] {
     [0u8; 16385]
 }
 
-fn main() {
+fn main(rt: HostRuntime) -> io::Result<()> {
     let mut script = room_for_script();
-    let length = io::read_full(STDIN_FILENO, &mut script);
+    let length = read_full(&mut rt.reader(), &mut script)?;
     if length == 16385 {
-        telling::say(b"The script is too long.\n");
+        telling::say(&rt, b"The script is too long.\n")?;
     }
-    play::whole(&script[..length]);
+    play::whole(&rt, &script[..length])
 }

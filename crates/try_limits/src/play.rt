@@ -3,28 +3,31 @@ use crate::line::Line;
 use crate::marks::Act;
 use crate::telling::{say, say_part, tell_place};
 use crate::{board, cases, line, marks};
+use std::io;
 use try_calls::exactly;
 use try_serial::asked::{Lent, put};
 
-fn say_sentence(script: &[u8], line: Line) {
+fn say_sentence(rt: &impl Print, script: &[u8], line: Line) -> io::Result<()> {
     let told = line.told;
     if told == line::CASE || told == line::SPOILED {
-        say_part(script, line.from, line.end);
+        say_part(rt, script, line.from, line.end)?;
     }
+    Ok(())
 }
 
 // What a line asks for beside what is lent.
-fn obey(line: Line, lent: Lent, rows: &mut [u32]) {
+fn obey(rt: &impl Print, line: Line, lent: Lent, rows: &mut [u32]) -> io::Result<()> {
     let act = marks::act_of(line);
     match act {
-        Act::Call(call) => cases::call(line, call, lent, rows),
+        Act::Call(call) => cases::call(rt, line, call, lent, rows)?,
         Act::Store(at, number) => put(rows, at, number),
         Act::Keep => board::keep(rows),
-        Act::Show => tell_place(board::place_in(rows, marks::task_of(line))),
-        Act::Fill => cases::fill(marks::task_of(line), lent, rows),
-        Act::Unknown => say(b"A line has an unknown mark.\n"),
+        Act::Show => tell_place(rt, board::place_in(rows, marks::task_of(line)))?,
+        Act::Fill => cases::fill(rt, marks::task_of(line), lent, rows)?,
+        Act::Unknown => say(rt, b"A line has an unknown mark.\n")?,
         _ => {}
     }
+    Ok(())
 }
 
 // The line that is being read, and what is lent.
@@ -48,23 +51,25 @@ fn further(reading: Reading, byte: u8, i: usize) -> Reading {
     Reading { line, lent }
 }
 
-fn turn(script: &[u8], reading: Reading, rows: &mut [u32]) {
+fn turn(rt: &impl Print, script: &[u8], reading: Reading, rows: &mut [u32]) -> io::Result<()> {
     let line = reading.line;
     if line.ended {
-        say_sentence(script, line);
-        obey(line, reading.lent, rows);
+        say_sentence(rt, script, line)?;
+        obey(rt, line, reading.lent, rows)?;
     }
+    Ok(())
 }
 
-fn play(script: &[u8], rows: &mut [u32]) {
+fn play(rt: &impl Print, script: &[u8], rows: &mut [u32]) -> io::Result<()> {
     let mut reading = begin();
     for i in 0..script.len() {
         reading = further(reading, script[i], i);
-        turn(script, reading, rows);
+        turn(rt, script, reading, rows)?;
     }
+    Ok(())
 }
 
-pub fn whole(script: &[u8]) {
+pub fn whole(rt: &impl Print, script: &[u8]) -> io::Result<()> {
     let mut rows = [0u32; board::NUMBERS];
-    play(script, &mut rows);
+    play(rt, script, &mut rows)
 }

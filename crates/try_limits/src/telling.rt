@@ -1,84 +1,86 @@
 // What was seen of a case, as text on standard output.
 use crate::board::Changed;
-use libc::STDOUT_FILENO;
 use memory::{Call, Looked, PlaceRow};
+use std::io;
 use try_serial::asked::AnyCall;
 
-pub fn say(text: &[u8]) {
-    io::write_all(STDOUT_FILENO, text);
+pub fn say(rt: &impl Print, text: &[u8]) -> io::Result<()> {
+    rt.write_all(text)
 }
 
-pub fn say_number(n: u32) {
-    io::print_decimal(STDOUT_FILENO, n as u64);
+pub fn say_number(rt: &impl Print, n: u32) -> io::Result<()> {
+    rt.print(n)
 }
 
 // A name and its number.
-pub fn say_named(text: &[u8], n: u32) {
-    say(text);
-    say_number(n);
+pub fn say_named(rt: &impl Print, text: &[u8], n: u32) -> io::Result<()> {
+    say(rt, text)?;
+    say_number(rt, n)
 }
 
-pub fn say_line(text: &[u8], n: u32) {
-    say_named(text, n);
-    say(b"\n");
+pub fn say_line(rt: &impl Print, text: &[u8], n: u32) -> io::Result<()> {
+    say_named(rt, text, n)?;
+    say(rt, b"\n")
 }
 
 // A part of the script.
-pub fn say_part(script: &[u8], from: usize, end: usize) {
+pub fn say_part(rt: &impl Print, script: &[u8], from: usize, end: usize) -> io::Result<()> {
     if from <= end {
         if end <= script.len() {
-            say(&script[from..end]);
+            say(rt, &script[from..end])?;
         }
     }
+    Ok(())
 }
 
 // §9.4: of 1 to 8 that nothing changed, and of 9 that nothing did but the task's own place.
-fn say_effect(number: u32, changed: Changed) {
+fn say_effect(rt: &impl Print, number: u32, changed: Changed) -> io::Result<()> {
     if number < 9 && changed.all == 0 {
-        say(b", nothing changed");
+        say(rt, b", nothing changed")
     } else if number == 9 && changed.own != 0 && changed.all == changed.own {
-        say(b", only the place of its task changed");
+        say(rt, b", only the place of its task changed")
     } else {
-        say_named(b", and numbers that changed: ", changed.all);
+        say_named(rt, b", and numbers that changed: ", changed.all)
     }
 }
 
 // Of the requests only a Read shows a value.
-fn say_value(request: Call, value: u32) {
+fn say_value(rt: &impl Print, request: Call, value: u32) -> io::Result<()> {
     if let Call::RD(_, _) = request {
-        say_named(b", value ", value);
+        say_named(rt, b", value ", value)?;
     }
+    Ok(())
 }
 
-fn say_looked(seen: Looked) {
-    say_named(b", value ", seen.value);
-    say_named(b", version ", seen.version);
+fn say_looked(rt: &impl Print, seen: Looked) -> io::Result<()> {
+    say_named(rt, b", value ", seen.value)?;
+    say_named(rt, b", version ", seen.version)
 }
 
 // What there is to see of a call that was not refused.
-fn say_result(call: AnyCall, seen: Looked) {
+fn say_result(rt: &impl Print, call: AnyCall, seen: Looked) -> io::Result<()> {
     match call {
-        AnyCall::Open(_) => {}
-        AnyCall::Look(_) => say_looked(seen),
-        AnyCall::Ask(request) => say_value(request, seen.value),
+        AnyCall::Open(_) => Ok(()),
+        AnyCall::Look(_) => say_looked(rt, seen),
+        AnyCall::Ask(request) => say_value(rt, request, seen.value),
     }
 }
 
 // After a case's sentence: the number answered, and what there is to see of the call.
-pub fn tell(call: AnyCall, seen: Looked, changed: Changed) {
+pub fn tell(rt: &impl Print, call: AnyCall, seen: Looked, changed: Changed) -> io::Result<()> {
     let number = seen.number;
-    say_named(b": ", number);
+    say_named(rt, b": ", number)?;
     if number != 0 && number < 20 {
-        say_effect(number, changed);
+        say_effect(rt, number, changed)
     } else {
-        say_result(call, seen);
+        say_result(rt, call, seen)
     }
 }
 
 // After a sentence: the numbers of a task's place (§3.4).
-pub fn tell_place(place: PlaceRow) {
-    say_named(b": entries ", place[0]);
-    say_named(b", phase ", place[1]);
-    say_named(b", position ", place[2]);
-    say_line(b", joins ", place[3]);
+pub fn tell_place(rt: &impl Print, place: PlaceRow) -> io::Result<()> {
+    say_named(rt, b": entries ", place[0])?;
+    say_named(rt, b", phase ", place[1])?;
+    say_named(rt, b", position ", place[2])?;
+    say_line(rt, b", joins ", place[3])
 }

@@ -12,6 +12,7 @@ mod tally;
 
 use drawn::Turn;
 use memory::{EntryRow, PlaceRow};
+use std::io;
 use tally::Tally;
 
 // The calls of 640 schedules.
@@ -53,12 +54,12 @@ fn play_all(
     counts
 }
 
-fn main() {
+fn main(rt: HostRuntime) -> io::Result<()> {
     let mut words = [0u32; memory::MOST_WORDS];
     let mut records = [0u32; memory::MOST_RECORDS];
     let mut places = [[0u32; memory::PLACE_WIDTH]; memory::MOST_TASKS];
     let mut entries = [[0u32; memory::ENTRY_WIDTH]; memory::MOST_ROWS];
     let mut m = [0u32; try_serial::ledger::NUMBERS];
     let counts = play_all(&mut words, &mut records, &mut places, &mut entries, &mut m);
-    report::print(counts, &m);
+    report::print(&rt, counts, &m)
 }

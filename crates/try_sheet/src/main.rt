@@ -6,8 +6,10 @@
 
 ghost use Rattle.std.specs.Prelude.{◌<◌};
 
-use libc::{STDIN_FILENO, STDOUT_FILENO};
+use program_input::read_full;
 use sheet_text::Answer;
+use std::io;
+use std::io::Read;
 
 // What stands in a buffer before it is lent.
 const BEFORE: u8 = 170;
@@ -54,55 +56,68 @@ fn ask(way: u8, given: &[u8], out: &mut [u8]) -> Answer {
     }
 }
 
-fn print(answer: Answer, out: &[u8]) {
-    io::print_decimal(STDOUT_FILENO, answer.number as u64);
-    io::write_all(STDOUT_FILENO, b" ");
-    io::print_decimal(STDOUT_FILENO, answer.length as u64);
-    io::write_all(STDOUT_FILENO, b" ");
-    io::print_decimal(STDOUT_FILENO, answer.lines as u64);
-    io::write_all(STDOUT_FILENO, b"\n");
-    io::write_all(STDOUT_FILENO, out);
+fn print(rt: &impl Print, answer: Answer, out: &[u8]) -> io::Result<()> {
+    let number = answer.number;
+    let length = answer.length;
+    let lines = answer.lines;
+    println!(rt; "{number} {length} {lines}")?;
+    rt.write_all(out)
 }
 
 // Reads what is given, asks, and prints. What is lent here are the parts that the case asks for.
-fn try_parts(way: u8, given: &mut [u8], out: &mut [u8]) {
-    io::read_full(STDIN_FILENO, given);
+fn try_parts<I: Read>(
+    from: &mut I,
+    rt: &impl Print,
+    way: u8,
+    given: &mut [u8],
+    out: &mut [u8],
+) -> io::Result<()> {
+    read_full(from, given)?;
     fill(out);
     let answer = ask(way, given, out);
-    print(answer, out);
+    print(rt, answer, out)
 }
 
 // One case. Answers whether there was one.
-fn try_one(given: &mut [u8], out: &mut [u8]) -> bool {
+fn try_one<I: Read>(
+    from: &mut I,
+    rt: &impl Print,
+    given: &mut [u8],
+    out: &mut [u8],
+) -> io::Result<bool> {
     let mut head = [0u8; 9];
-    if io::read_full(STDIN_FILENO, &mut head) < 9 {
-        return false;
+    if read_full(from, &mut head)? < 9 {
+        return Ok(false);
     }
     let room = number_at(&head, 1);
     let length = number_at(&head, 5);
     if given.len() < length {
-        return false;
+        return Ok(false);
     }
     if out.len() < room {
-        return false;
+        return Ok(false);
     }
-    try_parts(head[0], &mut given[..length], &mut out[..room]);
-    true
+    try_parts(from, rt, head[0], &mut given[..length], &mut out[..room])?;
+    Ok(true)
 }
 
-// A proved loop has to end: it counts its turns down, from a number that no run uses up.
-fn try_all(given: &mut [u8], out: &mut [u8]) {
-    let mut turns = u64::MAX;
-    while 0 < turns {
-        if !try_one(given, out) {
-            return;
+// A proved loop has to end: it has a number of turns that no run uses up.
+fn try_all<I: Read>(
+    from: &mut I,
+    rt: &impl Print,
+    given: &mut [u8],
+    out: &mut [u8],
+) -> io::Result<()> {
+    for _ in 0..u64::MAX {
+        if !try_one(from, rt, given, out)? {
+            break;
         }
-        turns = turns - 1;
     }
+    Ok(())
 }
 
-fn main() {
+fn main(rt: HostRuntime) -> io::Result<()> {
     let mut given = room_for_given();
     let mut out = room_for_answer();
-    try_all(&mut given, &mut out);
+    try_all(&mut rt.reader(), &rt, &mut given, &mut out)
 }

@@ -1,5 +1,4 @@
 -- `table_rows::code_of` meets its contract: the number of each phase, in the order of the list.
-use borrow.Author.Rules.{rules}
 use Rattle.table_rows.proofs.code_of.Goals as goal
 
 pub returns-in-Idle : goal.returns-in-Idle

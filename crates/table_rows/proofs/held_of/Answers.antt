@@ -1,5 +1,4 @@
 -- `table_rows::held_of` meets its contract: the branch is the definition's own test.
-use borrow.Author.Rules.{rules}
 use borrow.Author.Tests.{le-ltb, lt-ltb}
 use Rattle.memory.specs.Pieces.{held_of}
 use Rattle.table_rows.proofs.held_of.Goals as goal

@@ -1,5 +1,4 @@
 -- Asleep or not, by the kind.
-use borrow.Author.Rules.{rules}
 use Rattle.table_rows.proofs.OneKind.{asleep}
 use Rattle.table_rows.proofs.is_asleep.Goals as goal
 

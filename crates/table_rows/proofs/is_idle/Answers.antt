@@ -1,5 +1,4 @@
 -- Idle or not, by the kind.
-use borrow.Author.Rules.{rules}
 use Rattle.table_rows.proofs.OneKind.{idle}
 use Rattle.table_rows.proofs.is_idle.Goals as goal
 

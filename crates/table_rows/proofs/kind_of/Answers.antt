@@ -1,5 +1,4 @@
 -- The kind of each phase.
-use borrow.Author.Rules.{rules}
 use Rattle.table_rows.proofs.kind_of.Goals as goal
 
 pub returns-in-Idle : goal.returns-in-Idle

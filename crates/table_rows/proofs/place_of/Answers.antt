@@ -1,5 +1,4 @@
 -- `table_rows::place_of` meets its contract: the columns of the row, the phase as `phase_of` reads it.
-use borrow.Author.Rules.{rules}
 use Rattle.memory.specs.Pieces.{place_of}
 use Rattle.table_rows.proofs.place_of.Goals as goal
 

@@ -1,12 +1,9 @@
 -- `table_search::index_of` meets its contract: none of the rows before the counter holds the address.
-use Prim.Native.Nat.{◌-◌}
 use native.Mathlib.Omega.{arith}
-use lib.Dec.{eqb}
-use borrow.Author.Rules.{rules}
 use borrow.Author.Tests.{eq-eqb, ne_eqb}
 use Rattle.memory.specs.Pieces.{entry_of}
 use Rattle.memory.specs.Logical.{index_of}
-use Rattle.table_search.proofs.Search.{Passed, begins, found, goes_on, ends}
+use Rattle.table_search.proofs.Search.{begins, found, goes_on, ends}
 use Rattle.table_search.proofs.index_of.Goals as goal
 
 pub loop-at-init : goal.loop-at-init

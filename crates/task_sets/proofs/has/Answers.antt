@@ -1,5 +1,4 @@
 -- A task is in a set where its binary digit is 1.
-use borrow.Author.Rules.{rules}
 use Rattle.task_sets.proofs.Bits.{has_tested}
 use Rattle.task_sets.proofs.has.Goals as goal
 

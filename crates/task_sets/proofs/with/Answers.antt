@@ -1,5 +1,4 @@
 -- The set with the task's own digit added.
-use borrow.Author.Rules.{rules}
 use Rattle.task_sets.proofs.Bits.{has_with}
 use Rattle.task_sets.proofs.with.Goals as goal
 
