@@ -1,5 +1,4 @@
 -- Laws that the functions' proofs share, here and in the crate above.
-pub mod Answer
 pub mod Pairs
 pub mod Owners
 pub mod Found
