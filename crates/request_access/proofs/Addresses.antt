@@ -50,7 +50,7 @@ module _ (z : Sizes) (m : Memory) (ok : sound z m ≡ true) where
             let below : index_of a (entries z m t) < (place m t).count = omega (arith, found.0, entries_count z m ok t p.shows.0) in
             record {
               says = λ old new. p.says _ ∙ rw (lt-ltb a z.words inside, lt-ltb _ _ below);
-              shows = record { task = p.shows.0; inside = inside; here = p.shows.1; is_open_lem = p.shows.2; found = found.1 };
+              shows = record { task = p.shows.0; inside = inside; here = p.shows.1; is_open = p.shows.2; found = found.1 };
             }
 
         module _ (none : entry_for a (run z m t q.count) ≡ Nothing) where
@@ -81,7 +81,7 @@ module _ (z : Sizes) (m : Memory) (ok : sound z m ≡ true) where
                     task = p.shows.0;
                     inside = inside;
                     here = p.shows.1;
-                    is_open_lem = p.shows.2;
+                    is_open = p.shows.2;
                     room = leb-false _ _ room;
                     made = refl;
                     lasts = added-sound z m ok t a p.shows.0 (ap (λ (x : Place). x.phase) p.shows.1 ∙ is_open_lem q.phase p.shows.2) inside unknown
