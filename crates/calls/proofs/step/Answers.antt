@@ -1,0 +1,13 @@
+-- `calls::step` meets its contract: 1 on an unsound table, and otherwise what the call on a sound one says.
+use Rattle.memory.specs.declared.Call.TheVariants.{SP}
+use Rattle.memory.specs.Calls.{call}
+use Rattle.table_parts.proofs.Tests.{refused, passed}
+use Rattle.calls.proofs.Refusals.{unsound_reply}
+use Rattle.calls.proofs.step.Goals as goal
+
+pub returns-then-not-is_sound : goal.returns-then-not-is_sound
+unfolding call
+returns-then-not-is_sound c = unsound_reply _ _ (SP _) _ c.unsound.ensures (refused c.is_sound.ensures c.if-not-is_sound.true)
+
+pub step_sound-requires : goal.step_sound-requires
+step_sound-requires c = passed c.is_sound.ensures c.if-not-is_sound.false
