@@ -9,8 +9,7 @@ use Rattle.memory.specs.Pieces.{Memory}
 use Rattle.memory.specs.Sound.{sound}
 use Rattle.memory.specs.Logical.{logical}
 use Rattle.memory.specs.Requests.{look}
-use Rattle.session_show.proofs.seen_at.Statement.{statement}
-use Rattle.session_show.proofs.seen_at.Tie as tie
+use Rattle.session_show.proofs.seen_at.Goals as goal
 
 module _ (z : Sizes) (m : Memory) (a : ℕ) {b : Bool} (is : b ≡ sound z m) where
   seen : (s : Seen) → b ≡ true → a < z.words → s ≡ logical z m a → (s.value ≡ (look z m a).value) × (s.version ≡ (look z m a).version)
@@ -21,14 +20,11 @@ module _ (z : Sizes) (m : Memory) (a : ℕ) {b : Bool} (is : b ≡ sound z m) wh
   unfolding look
   unseen e = rw (sym is ∙ e) (refl, refl)
 
-logical_requires : tie.Need-logical-requires
-logical_requires c κs = (sym c.before.before.before.requires.0 ∙ c.if1.true, c.before.before.before.requires.1)
+pub logical-requires : goal.logical-requires
+logical-requires c = (sym c.requires.0 ∙ c.if-checked.true, c.requires.1)
 
-returns : tie.Need-returns
-returns c = seen _ _ _ c.before.before.before.before.requires.0 _ c.before.if1.true c.before.before.before.before.requires.1 c.logical.ensures
+pub returns-then-checked : goal.returns-then-checked
+returns-then-checked c = seen _ _ _ c.requires.0 _ c.if-checked.true c.requires.1 c.logical.ensures
 
-returns_2 : tie.Need-returns-2
-returns_2 c = unseen _ _ _ c.before.before.before.requires.0 c.if1.false
-
-pub seen_at_spec : {M : Type 1} → statement M
-seen_at_spec = tie.close (tie.spec logical_requires returns returns_2)
+pub returns : goal.returns
+returns c = unseen _ _ _ c.requires.0 c.if-checked.false
