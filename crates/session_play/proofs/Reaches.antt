@@ -25,7 +25,7 @@ use Rattle.session_play.specs.Claims.{ran, Reached, PlayedIsReached}
 use Rattle.session_ask.specs.declared.Asked.{Asked}
 use Rattle.session_ask.specs.declared.Asked.TheVariants.{Board, Request}
 use Rattle.session_ask.specs.Asking.{asked_of, answered, requested}
-use Rattle.session_run.specs.Run.{Run, runs, after, over, run, stops, run_on}
+use Rattle.session_run.specs.Run.{Run, runs, over, run, stops, run_on}
 use Rattle.session_print.specs.Print.{sizes_asked, first_asked, lent}
 use Rattle.session_print.proofs.Lent.{opening_cases, lent_serves}
 

@@ -102,9 +102,9 @@ module _ (z : Sizes) (m : Memory) (v : Values m) where
 
   -- What is stored -------------------------------------------------------------------------------------------------------------------
 
-  set_word : (a x : ℕ) → x < b → Values (set_word m a x)
+  set_word_lem : (a x : ℕ) → x < b → Values (set_word m a x)
   unfolding set_word
-  set_word a x h = record { words = all_set (λ n. n < b) m.words a x 0 v.words h; rows = v.rows }
+  set_word_lem a x h = record { words = all_set (λ n. n < b) m.words a x 0 v.words h; rows = v.rows }
 
   set-held : (r : ℕ) (h : Held) → Values (set_held m r h)
   unfolding set_held
@@ -161,7 +161,7 @@ module _ (z : Sizes) (m : Memory) (v : Values m) where
   does (meets g i h u e x j stays) = same_values m (clash z m u) (clash-words z m u) (clash-entries z m u) v
   does (differs i h u e x w ne) = v
   does (chooses g) = v
-  does {t} (writes i h) = set_word z m v _ _ (one_entry z m v t i).1
+  does {t} (writes i h) = set_word_lem z m v _ _ (one_entry z m v t i).1
   does wrote_all = v
   does (gives o i h e) = set-held z m v _ _
   does (passes o i h e) = v
