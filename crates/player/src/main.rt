@@ -14,11 +14,18 @@ fn room_for_session() -> [u8; 60001] {
     [0u8; 60001]
 }
 
+// A buffer of any length.
+fn room<const N: usize>() -> [u8; N]
+    ensures { length result ≡ N }
+{
+    [0u8; N]
+}
+
 // No text is longer, by `text_is_short` in crates/session_play.
 fn room_for_text() -> [u8; session_play::MOST_TEXT]
     ensures { length result ≡ most_text }
 {
-    [0u8; session_play::MOST_TEXT]
+    room()
 }
 
 // Prints the text, which was written whole if there was room for it.

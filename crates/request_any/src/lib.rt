@@ -11,6 +11,7 @@ ghost use Rattle.memory.specs.Calls.{call};
 use memory::{Answer, Call, EntryRow, PlaceRow, Sizes};
 
 // §6, §7: the request that is asked.
+#[tactic(auto, unfolding(memory::specs::Calls::call))]
 pub fn ask_sound(
     sizes: Sizes,
     words: &mut [u32],
