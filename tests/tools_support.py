@@ -52,6 +52,7 @@ def verdict():
 PRETENDED_RT = """#!/bin/sh
 [ "$1" != doc ] || { echo "$PRETENDED/kit/START-HERE.md"; exit 0; }
 echo begin >>"$PRETENDED/log"
+echo "rt: chose --jobs 2 for session_text"
 sleep "${PAUSE:-0}"
 echo "crate session_text: modules loaded=3 checked=1"
 echo "logic=proved functions=4"

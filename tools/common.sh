@@ -41,22 +41,23 @@ crates_under() { # CRATE
 # Runs rt in a crate's folder, and says on standard error what it proves: a line for each crate. What has not changed is not
 # proved again and not spoken of. If rt fails, all that it printed is shown.
 prove() { # CRATE WORDS-FOR-RT..
-    local crate=$1 line status=1 all said='' pause=2 began=$SECONDS log=$PWD/target/${tool##*/}.log
+    local crate=$1 line status=1 all said='' announced='' began=$SECONDS log=$PWD/target/${tool##*/}.log
     all=$(crates_under "$crate")
     shift
     mkdir -p target
     : >"$log"
     exec 8< <(cd "crates/$crate" && rt "$@" </dev/null 9<&- 2>&1 && echo 'ended 0' || echo "ended $?")
     while true; do
-        if IFS= read -r -t "$pause" line <&8; then
+        if IFS= read -r -t 20 line <&8; then
             printf '%s\n' "$line" >>"$log"
             case $line in
             'ended '*) status=${line#ended }; break ;;
+            'rt: chose '* | 'rt: '*': begins '* | 'checked '*) announce ;;
             'crate '*': '*) said=${line#crate } said=${said%%:*} ;;
             'logic=proved'*) announce; say "$said is proved" ;;
             esac
         elif [ $? -gt 128 ]; then
-            if [ "$pause" = 2 ]; then announce; else say "still proving, $((SECONDS - began)) s so far"; fi
+            if [ -z "$announced" ]; then announce; else say "still proving, $((SECONDS - began)) s so far"; fi
         else
             break
         fi
@@ -67,10 +68,10 @@ prove() { # CRATE WORDS-FOR-RT..
     return 1
 }
 
-# Before the first line of progress: what is going on.
+# Before the first line of progress: what is going on. Where nothing has changed, rt says nothing, and so does this.
 announce() {
-    [ "$pause" = 2 ] || return 0
-    pause=20
+    [ -z "$announced" ] || return 0
+    announced=yes
     local long=''
     [ "$all" -lt 6 ] || long=', which takes some minutes the first time'
     say "proving $crate and what it stands on, $all crates in all$long; those that have not changed are passed over"
