@@ -6,7 +6,7 @@ use mathlib.Core.List.{List, [], ◌∷◌, map}
 use mathlib.Core.Bool.{true, false}
 use Rattle.memory.specs.{Sizes, Idle, Open, Place, Entry, Memory, place, ended, entries, Reply, looked, Call, ST, CM, AB, WT, SP, RD, WR, ◌∈◌, refusal, KeepsOthers, Narrow, Row, Given, phase, New, refusals, unusable, rows_of, Valued, Machine, ours, StoredFrom, Stores, Promised, OneMachine}
 use Rattle.memory.specs.Effects.{Goes, Leaves}
-use Rattle.memory.specs.Fixed.Claim.{call_answers, opening_answers, look_answers, refusals-keep, refused_openings_keep, calls_are_narrow, requests_leave, entries-stored, steps-leave, clashes_end, sound-lasts, opening_leaves, opening_is_sound}
+use Rattle.memory.specs.Fixed.Claim.{call_answers, opening_answers, look_answers, refusals_keep, refused_openings_keep, calls_are_narrow, requests_leave, entries_stored, steps_leave, clashes_end, sound_lasts, opening_leaves, opening_is_sound}
 use Rattle.memory.proofs.StepAnswers.{ending}
 use Rattle.memory.proofs.Tools.{same?}
 use Rattle.memory.proofs.Find.{find?}
@@ -28,14 +28,14 @@ module _ (M N : Machine) (P : Promised M) (Q : Promised N) (z : Sizes) (m : Memo
   Any c X = (K : Machine) → Promised K → X (K.call z m c)
 
   told : (c : Call) → Any c (λ x. (Given (rows_of z m c x.after) x.number × Valued z m c x) × Narrow z m c x.after × Leaves z m c x × Stores z m c x)
-  told c K R = (R call_answers z m c, R calls_are_narrow z m c, R requests_leave z m c, R entries-stored z m c)
+  told c K R = (R call_answers z m c, R calls_are_narrow z m c, R requests_leave z m c, R entries_stored z m c)
 
   -- every call goes by this: rows that do not speak of what it leaves, its value, and what it leaves where it is allowed
   alike : (c : Call) (t : ℕ) (D : Type 0) (rows : List Row) → Given (refusals z m t D rows) (r c).number → Given (refusals z m t D rows) (s c).number
       → ((r c).number ≡ (s c).number → (r c).value ≡ (s c).value)
       → (Allowed z m t D → Given rows (r c).number → refusal (r c).number ≡ false → (r c).number ≡ (s c).number → (r c).after ≡ (s c).after) → r c ≡ s c
   alike c t D rows x y value after =
-      same-reply (refusals z m t D rows) m (r c) (s c) x y (P refusals-keep z m c) (Q refusals-keep z m c) value
+      same-reply (refusals z m t D rows) m (r c) (s c) x y (P refusals_keep z m c) (Q refusals_keep z m c) value
       (λ b q. let (a, g) = allowed z m t D (r c).number rows b x in after a g b q)
 
   -- Start, Commit, Abort and Wait: the task goes to a place
@@ -47,7 +47,7 @@ module _ (M N : Machine) (P : Promised M) (Q : Promised N) (z : Sizes) (m : Memo
       let (y, l, h, _) = is N Q in
       alike c t D rows x.0 y.0 (λ _. x.1 ∙ sym y.1) (λ (ok, _, _) w b e.
       let n = only_0 rows all (r c).number b w in
-      same_goes z _ _ (P sound-lasts z m ok c) (Q sound-lasts z m ok c) m t k l q (g n) (h (sym e ∙ n)))
+      same_goes z _ _ (P sound_lasts z m ok c) (Q sound_lasts z m ok c) m t k l q (g n) (h (sym e ∙ n)))
 
   -- Read and Write: overtaken, they go as Abort does; with 0 their entries tell what they leave
   enters : (c : Call) (t a : ℕ) (rows : List Row) (from : ℕ) → refusing rows ≡ true
@@ -60,10 +60,10 @@ module _ (M N : Machine) (P : Promised M) (Q : Promised N) (z : Sizes) (m : Memo
       let (x, k, g, S) = is M P in
       let (y, l, h, T) = is N Q in
       alike c t _ ((5, _) ∷ (6, _) ∷ (9, _) ∷ rows) x y value (λ (ok, lt, _) w b e.
-      ⊎_elim (λ (_, n). same_goes z _ _ (P sound-lasts z m ok c) (Q sound-lasts z m ok c) m t k l ended (g n) (h (sym e ∙ n))) (λ (_, u).
+      ⊎_elim (λ (_, n). same_goes z _ _ (P sound_lasts z m ok c) (Q sound_lasts z m ok c) m t k l ended (g n) (h (sym e ∙ n))) (λ (_, u).
       let n = only_0 rows all (r c).number b u in
       let (o, p, es) = after n (sym e ∙ n) in
-      same-stored z _ _ (P sound-lasts z m ok c) (Q sound-lasts z m ok c) m t k l from lt (S n) (T (sym e ∙ n)) o p es)
+      same-stored z _ _ (P sound_lasts z m ok c) (Q sound_lasts z m ok c) m t k l from lt (S n) (T (sym e ∙ n)) o p es)
       (past 6 refl b (past 5 refl b w).1).1)
 
   read-value : (t a : ℕ) → (r (RD t a)).number ≡ (s (RD t a)).number → (r (RD t a)).value ≡ (s (RD t a)).value
@@ -103,8 +103,8 @@ module _ (M N : Machine) (P : Promised M) (Q : Promised N) (z : Sizes) (m : Memo
 
       after : Allowed z m t D → m₁ ≡ m₂
       after (ok, lt, d) =
-          same_step z m t ok lt m₁ m₂ (P sound-lasts z m ok (SP t)) (Q sound-lasts z m ok (SP t)) (P clashes_end z m t ok lt) (Q clashes_end z m t ok lt) d
-          (P steps-leave z m t ok lt) (Q steps-leave z m t ok lt)
+          same_step z m t ok lt m₁ m₂ (P sound_lasts z m ok (SP t)) (Q sound_lasts z m ok (SP t)) (P clashes_end z m t ok lt) (Q clashes_end z m t ok lt) d
+          (P steps_leave z m t ok lt) (Q steps_leave z m t ok lt)
 
   one_call : (c : Call) → r c ≡ s c
   one_call (ST t) = goes (ST t) t _ [] _ refl (told (ST t))

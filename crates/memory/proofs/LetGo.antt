@@ -69,12 +69,12 @@ the_woken_ends z m u lt ok q =
     let L = R.there in (
       _,
       record {
-        is-after = refl;
+        is_after = refl;
         answers = ((place m u).count, R.answers);
         own = L.standing.own;
         others = L.standing.others;
         words = words_back z m _ ok L.standing.ok L.words;
-        entries-same = L.standing.entries;
+        entries_same = L.standing.entries;
         freed = λ e k o.
             let i = in_entries z m ok u lt e k in
             let there : (entry z m u i.0).address % z.records ≡ e.address % z.records = ap (λ (f : Entry). f.address % z.records) (sym i.2) in

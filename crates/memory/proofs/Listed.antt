@@ -57,14 +57,14 @@ module _ (z : Sizes) (m : Memory) (t : ℕ) where
       (inr (λ q. omega (arith, ap kind_of q), refl, λ c. absurd (false≢true c)))
 
   -- 21 is answered at the end of releasing as committed
-  ends-committed : {p : Phase} {r : Reply} → Went z m t p r → r.number ≡ 21 → committed p ≡ true
-  ends-committed (moves {p = p} {p' = p'} d) =
+  ends_committed_lem : {p : Phase} {r : Reply} → Went z m t p r → r.number ≡ 21 → committed p ≡ true
+  ends_committed_lem (moves {p = p} {p' = p'} d) =
       if_cases (λ (k : ℕ). k ≡ 21 → committed p ≡ true) (wakes p') _ _ (λ c e. absurd (omega (arith, e))) (λ c e. absurd (omega (arith, e)))
-  ends-committed (joins i h u e x w v) = λ e. absurd (omega (arith, e))
-  ends-committed rests = λ e. absurd (omega (arith, e))
-  ends-committed (ends Committed) = λ e. refl
-  ends-committed (ends Failed) = λ e. absurd (omega (arith, e))
-  ends-committed (ends Woken) = λ e. absurd (omega (arith, e))
+  ends_committed_lem (joins i h u e x w v) = λ e. absurd (omega (arith, e))
+  ends_committed_lem rests = λ e. absurd (omega (arith, e))
+  ends_committed_lem (ends Committed) = λ e. refl
+  ends_committed_lem (ends Failed) = λ e. absurd (omega (arith, e))
+  ends_committed_lem (ends Woken) = λ e. absurd (omega (arith, e))
 
 module _ (G : Notes) where
   -- with one more listed
@@ -191,7 +191,7 @@ module _ (z : Sizes) (m : Memory) (G : Notes) where
 
   answers_21 : (t : ℕ) → (call z m (SP t)).number ≡ 21 → committed (phase m t) ≡ true
   answers_21 t =
-      step_cases z m t (λ r. r.number ≡ 21 → committed (phase m t) ≡ true) (no_refusal 21 refl) (λ ok lt r w. ends-committed z m t w)
+      step_cases z m t (λ r. r.number ≡ 21 → committed (phase m t) ≡ true) (no_refusal 21 refl) (λ ok lt r w. ends_committed_lem z m t w)
 
   deciding : sound z m ≡ true → (t : ℕ) → t < z.tasks → phase m t ≡ Taking Commit (n t) → (noted z m (call z m (SP t)) (SP t) G).past ≡ G.logs t ∷ G.past
   deciding ok t lt q = go (went_adds z m t ok lt refl (step_goes z m t ok lt (ap steps q)))

@@ -8,7 +8,7 @@ use lib.Dec.{eqb}
 use lib.ListN.{get_or, replicate, length-replicate}
 use native.Mathlib.Omega.{arith}
 use borrow.Author.Tests.{eqb-true}
-use Rattle.memory.specs.{Sizes, Memory, place_of, phase_of, place, set_word, sound, Looked, Reply, call, open_board, look, opened, Machine, ours, refusal, OpeningAnswers, LookAnswers, RefusedOpeningsKeep, OpeningLeaves, OpeningIsSound, Opened, Claim, Says, Promised, Needed, EachIsNeeded, call_answers, opening_answers, look_answers, refusals-keep, refused_openings_keep, calls_are_narrow, requests_leave, entries-stored, steps-leave, clashes_end, sound-lasts, opening_leaves, opening_is_sound}
+use Rattle.memory.specs.{Sizes, Memory, place_of, phase_of, place, set_word, sound, Looked, Reply, call, open_board, look, opened, Machine, ours, refusal, OpeningAnswers, LookAnswers, RefusedOpeningsKeep, OpeningLeaves, OpeningIsSound, Opened, Claim, Says, Promised, Needed, EachIsNeeded, call_answers, opening_answers, look_answers, refusals_keep, refused_openings_keep, calls_are_narrow, requests_leave, entries_stored, steps_leave, clashes_end, sound_lasts, opening_leaves, opening_is_sound}
 use Rattle.memory.specs.Wrong.{leaving, opening}
 use Rattle.memory.specs.Thirteen.{with_places, opening_says_1, look_says_5_first, refused_opening_clears, opening_writes, opening_leaves_no_rows}
 use Rattle.memory.proofs.Tools.{if_cases, any_of}
@@ -35,13 +35,13 @@ module _ (O : Promised ours) where
     with_ours h₁ h₂ h₃ h₄ h₅ opening_leaves ne = h₄ ne
     with_ours h₁ h₂ h₃ h₄ h₅ opening_is_sound ne = h₅ ne
     with_ours h₁ h₂ h₃ h₄ h₅ call_answers ne = O call_answers
-    with_ours h₁ h₂ h₃ h₄ h₅ refusals-keep ne = O refusals-keep
+    with_ours h₁ h₂ h₃ h₄ h₅ refusals_keep ne = O refusals_keep
     with_ours h₁ h₂ h₃ h₄ h₅ calls_are_narrow ne = O calls_are_narrow
     with_ours h₁ h₂ h₃ h₄ h₅ requests_leave ne = O requests_leave
-    with_ours h₁ h₂ h₃ h₄ h₅ entries-stored ne = O entries-stored
-    with_ours h₁ h₂ h₃ h₄ h₅ steps-leave ne = O steps-leave
+    with_ours h₁ h₂ h₃ h₄ h₅ entries_stored ne = O entries_stored
+    with_ours h₁ h₂ h₃ h₄ h₅ steps_leave ne = O steps_leave
     with_ours h₁ h₂ h₃ h₄ h₅ clashes_end ne = O clashes_end
-    with_ours h₁ h₂ h₃ h₄ h₅ sound-lasts ne = O sound-lasts
+    with_ours h₁ h₂ h₃ h₄ h₅ sound_lasts ne = O sound_lasts
 
   -- the opening leaves something else where it answers n
   module _ (c : Claim) (n : ℕ) (f : Sizes → ℕ → Memory → Memory) where
@@ -129,13 +129,13 @@ module _ (O : Promised ours) where
   each_is_needed call_answers = call_answers_needed O
   each_is_needed opening_answers = opening_answers_needed
   each_is_needed look_answers = look_answers_needed
-  each_is_needed refusals-keep = refusals_keep_needed O
+  each_is_needed refusals_keep = refusals_keep_needed O
   each_is_needed refused_openings_keep = refused_openings_keep_needed
   each_is_needed calls_are_narrow = calls_are_narrow_needed O
   each_is_needed requests_leave = requests_leave_needed O
-  each_is_needed entries-stored = entries_stored_needed O
-  each_is_needed steps-leave = steps_leave_needed O
+  each_is_needed entries_stored = entries_stored_needed O
+  each_is_needed steps_leave = steps_leave_needed O
   each_is_needed clashes_end = clashes_end_needed O
-  each_is_needed sound-lasts = sound_lasts_needed O
+  each_is_needed sound_lasts = sound_lasts_needed O
   each_is_needed opening_leaves = opening_leaves_needed
   each_is_needed opening_is_sound = opening_is_sound_needed

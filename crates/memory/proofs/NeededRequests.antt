@@ -9,7 +9,7 @@ use lib.ListN.{length, set, take, drop, length-set}
 use lib.Seq.{get_or-set_same, get_or-set_other, drop-set-add, take-set-le}
 use native.Mathlib.Omega.{arith}
 use borrow.Author.Tests.{ltb-true}
-use Rattle.memory.specs.{Sizes, Open, Entry, Memory, memory, phase_of, place_of, place, bare, entry, entry_of, row_of_entry, entries, limit, run_start, set_word, set_place, set_entry, sound, lists_ok, joins_ok, join_ok, on_list, entry_ok, held, ST, AB, RD, call, ours, KeepsOthers, Given, refusal, rows_of, phase, Entered, Promised, Needed, call_answers, refusals-keep, calls_are_narrow, requests_leave, entries-stored, sound-lasts}
+use Rattle.memory.specs.{Sizes, Open, Entry, Memory, memory, phase_of, place_of, place, bare, entry, entry_of, row_of_entry, entries, limit, run_start, set_word, set_place, set_entry, sound, lists_ok, joins_ok, join_ok, on_list, entry_ok, held, ST, AB, RD, call, ours, KeepsOthers, Given, refusal, rows_of, phase, Entered, Promised, Needed, call_answers, refusals_keep, calls_are_narrow, requests_leave, entries_stored, sound_lasts}
 use Rattle.memory.specs.Wrong.{valued}
 use Rattle.memory.specs.Thirteen.{with_places, mark, scribbled, start_says_1, refused_start_opens, start_writes, abort_does_nothing, read_scribbles, start_widens}
 use Rattle.memory.proofs.Tools.{if_cases}
@@ -117,22 +117,22 @@ module _ (O : Promised ours) where
         meets = for_start O call_answers (λ z m t r. valued 1 r) (λ z m t.
             record {
               answers = λ ne. absurd (ne refl);
-              kept = λ _. O refusals-keep z m (ST t);
+              kept = λ _. O refusals_keep z m (ST t);
               narrow = λ _. O calls_are_narrow z m (ST t);
               leave = λ _. O requests_leave z m (ST t);
               stored = λ _. tt;
               step = λ _. tt;
               clash = λ _. tt;
-              lasts = λ _ ok. O sound-lasts z m ok (ST t);
+              lasts = λ _ ok. O sound_lasts z m ok (ST t);
             });
       }
 
-  pub refusals_keep_needed : Needed refusals-keep
+  pub refusals_keep_needed : Needed refusals_keep
   refusals_keep_needed =
       record {
         wrong = refused_start_opens;
         breaks = refused_start_opens_lem;
-        meets = starts O refusals-keep 1 (λ z m t x. set_place x t (bare 0 Open)) (λ z m t e.
+        meets = starts O refusals_keep 1 (λ z m t x. set_place x t (bare 0 Open)) (λ z m t e.
             record {
               answers = λ _. O call_answers z m (ST t);
               kept = λ ne. absurd (ne refl);
@@ -165,23 +165,23 @@ module _ (O : Promised ours) where
               stored = λ _. tt;
               step = λ _. tt;
               clash = λ _. tt;
-              lasts = λ _ ok. word_sound z _ (O sound-lasts z m ok (ST t));
+              lasts = λ _ ok. word_sound z _ (O sound_lasts z m ok (ST t));
             });
       }
 
-  pub sound_lasts_needed : Needed sound-lasts
+  pub sound_lasts_needed : Needed sound_lasts
   sound_lasts_needed =
       record {
         wrong = start_widens;
         breaks = start_widens_lem;
-        meets = starts O sound-lasts 0 (λ z m t x. with_places x (set x.places t (0 ∷ 1 ∷ 0 ∷ 0 ∷ 0 ∷ []))) (λ z m t e.
+        meets = starts O sound_lasts 0 (λ z m t x. with_places x (set x.places t (0 ∷ 1 ∷ 0 ∷ 0 ∷ 0 ∷ []))) (λ z m t e.
             record {
               answers = λ _. O call_answers z m (ST t);
               kept = λ _ b. no_refusal 0 refl _ b e;
               narrow = λ _. own_row z m t _ _ (O calls_are_narrow z m (ST t));
               leave = λ _ n.
                   let s = (allowed z m t _ _ [] (ap refusal e) (O call_answers z m (ST t)).0).0 in
-                  (wide_row (call z m (ST t)).after t (in_places z _ (O sound-lasts z m s.0 (ST t)) t s.1), (O requests_leave z m (ST t) n).1);
+                  (wide_row (call z m (ST t)).after t (in_places z _ (O sound_lasts z m s.0 (ST t)) t s.1), (O requests_leave z m (ST t) n).1);
               stored = λ _. tt;
               step = λ _. tt;
               clash = λ _. tt;
@@ -209,12 +209,12 @@ module _ (O : Promised ours) where
             });
       }
 
-  pub entries_stored_needed : Needed entries-stored
+  pub entries_stored_needed : Needed entries_stored
   entries_stored_needed =
       record {
         wrong = read_scribbles;
         breaks = read_scribbles_lem;
-        meets = reads O entries-stored 0 (λ z m t. scribbled z t) (λ a z m t e.
+        meets = reads O entries_stored 0 (λ z m t. scribbled z t) (λ a z m t e.
             let x = (call z m (RD t a)).after in
             record {
               answers = λ _. O call_answers z m (RD t a);
@@ -231,7 +231,7 @@ module _ (O : Promised ours) where
               clash = λ _. tt;
               lasts = λ _ ok.
                   let (_, lt, _) = (allowed z m t _ _ (drop 3 (rows_of z m (RD t a) m)) (ap refusal e) (O call_answers z m (RD t a)).0).0 in
-                  scribbled-sound z t x lt (O sound-lasts z m ok (RD t a));
+                  scribbled-sound z t x lt (O sound_lasts z m ok (RD t a));
             });
       }
     where

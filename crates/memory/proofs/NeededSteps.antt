@@ -8,7 +8,7 @@ use lib.Dec.{eqb}
 use lib.ListN.{drop}
 use native.Mathlib.Omega.{arith}
 use borrow.Author.Tests.{ltb-true, eqb-true, eqb-false, not-true}
-use Rattle.memory.specs.{place, Sizes, Goal, Failed, Taking, Asleep, Writing, Releasing, Held, Version, Owner, Place, Memory, kind_of, position_of, is, held, entry, move, sound, Reply, reply, wakes, SP, call, ours, Given, refusal, rows_of, phase, Meets, Steps, Promised, Claim, Needed, call_answers, steps-leave, clashes_end}
+use Rattle.memory.specs.{place, Sizes, Goal, Failed, Taking, Asleep, Writing, Releasing, Held, Version, Owner, Place, Memory, kind_of, position_of, is, held, entry, move, sound, Reply, reply, wakes, SP, call, ours, Given, refusal, rows_of, phase, Meets, Steps, Promised, Claim, Needed, call_answers, steps_leave, clashes_end}
 use Rattle.memory.specs.Thirteen.{another, comes_to_another, writing_stays, owner_stays}
 use Rattle.memory.proofs.Tools.{and_0, and_1, if_cases}
 use Rattle.memory.proofs.Cases.{no_refusal}
@@ -58,19 +58,19 @@ module _ (O : Promised ours) where
     still_answers e x ne = (awake z m t r.after x e ne (O call_answers z m (SP t)).0, (O call_answers z m (SP t)).1)
 
   -- in Writing nothing changes
-  pub steps_leave_needed : Needed steps-leave
+  pub steps_leave_needed : Needed steps_leave
   steps_leave_needed =
       record {
         wrong = writing_stays;
         breaks = writing_stays_lem;
-        meets = steps O steps-leave 0 (λ z m t x. if is (Writing 0) (place m t).phase then m else x) (λ z m t e. where_tested steps-leave z m t (is (Writing 0) (phase m t)) m (λ w.
+        meets = steps O steps_leave 0 (λ z m t x. if is (Writing 0) (place m t).phase then m else x) (λ z m t e. where_tested steps_leave z m t (is (Writing 0) (phase m t)) m (λ w.
             stays z m t e (eqb-true _ _ (and_0 (eqb (kind_of (phase m t)) 5) _ w))));
       }
     where
-      stays : (z : Sizes) (m : Memory) (t : ℕ) → (call z m (SP t)).number ≡ 0 → kind_of (phase m t) ≡ 5 → Leaving steps-leave z m t m
+      stays : (z : Sizes) (m : Memory) (t : ℕ) → (call z m (SP t)).number ≡ 0 → kind_of (phase m t) ≡ 5 → Leaving steps_leave z m t m
       stays z m t e w =
           record {
-            answers = λ _. still_answers steps-leave z m t e m (λ q. absurd (omega (arith, w, ap kind_of q)));
+            answers = λ _. still_answers steps_leave z m t e m (λ q. absurd (omega (arith, w, ap kind_of q)));
             kept = λ _ _. refl;
             narrow = λ _. still z m t;
             leave = λ _. tt;

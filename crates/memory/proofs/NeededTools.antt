@@ -5,7 +5,7 @@ use mathlib.Core.Logic.{◌≢◌}
 use mathlib.Core.Bool.{true}
 use lib.Dec.{eqb}
 use borrow.Author.Tests.{eqb-true}
-use Rattle.memory.specs.{Sizes, Memory, sound, Reply, reply, Call, ST, CM, AB, WT, SP, RD, WR, call, ours, refusal, Given, rows_of, phase, Valued, Narrow, Leaves, Stores, Steps, Claim, Says, Promised, call_answers, opening_answers, look_answers, refusals-keep, refused_openings_keep, calls_are_narrow, requests_leave, entries-stored, steps-leave, clashes_end, sound-lasts, opening_leaves, opening_is_sound}
+use Rattle.memory.specs.{Sizes, Memory, sound, Reply, reply, Call, ST, CM, AB, WT, SP, RD, WR, call, ours, refusal, Given, rows_of, phase, Valued, Narrow, Leaves, Stores, Steps, Claim, Says, Promised, call_answers, opening_answers, look_answers, refusals_keep, refused_openings_keep, calls_are_narrow, requests_leave, entries_stored, steps_leave, clashes_end, sound_lasts, opening_leaves, opening_is_sound}
 use Rattle.memory.specs.Wrong.{Twist, leaving, straight, twisted, calling, starting, aborting, stepping, reading}
 use Rattle.memory.proofs.Tools.{if_cases}
 use Rattle.memory.proofs.Stepping.{Meeting}
@@ -41,38 +41,38 @@ StepMeets z m t m' = sound z m ≡ true → t < z.tasks → Meeting z m t m'
 -- every claim about calls but one
 pub record But (c : Claim) (z : Sizes) (m : Memory) (k : Call) (r : Reply) : Type 0 where
   pub answers : call_answers ≢ c → Given (rows_of z m k r.after) r.number × Valued z m k r
-  pub kept : refusals-keep ≢ c → refusal r.number ≡ true → r.after ≡ m
+  pub kept : refusals_keep ≢ c → refusal r.number ≡ true → r.after ≡ m
   pub narrow : calls_are_narrow ≢ c → Narrow z m k r.after
   pub leave : requests_leave ≢ c → Leaves z m k r
-  pub stored : entries-stored ≢ c → Stores z m k r
-  pub step : steps-leave ≢ c → OfStep StepLeaves z m k r
+  pub stored : entries_stored ≢ c → Stores z m k r
+  pub step : steps_leave ≢ c → OfStep StepLeaves z m k r
   pub clash : clashes_end ≢ c → OfStep StepMeets z m k r
-  pub lasts : sound-lasts ≢ c → sound z m ≡ true → sound z r.after ≡ true
+  pub lasts : sound_lasts ≢ c → sound z m ≡ true → sound z r.after ≡ true
 
 module _ (O : Promised ours) (c : Claim) where
   pub ours_but : (z : Sizes) (m : Memory) (k : Call) → But c z m k (call z m k)
   ours_but z m k =
       record {
         answers = λ _. O call_answers z m k;
-        kept = λ _. O refusals-keep z m k;
+        kept = λ _. O refusals_keep z m k;
         narrow = λ _. O calls_are_narrow z m k;
         leave = λ _. O requests_leave z m k;
-        stored = λ _. O entries-stored z m k;
-        step = λ _. of_step StepLeaves (O steps-leave) z m k;
+        stored = λ _. O entries_stored z m k;
+        step = λ _. of_step StepLeaves (O steps_leave) z m k;
         clash = λ _. of_step StepMeets (O clashes_end) z m k;
-        lasts = λ _ ok. O sound-lasts z m ok k;
+        lasts = λ _ ok. O sound_lasts z m ok k;
       }
 
   -- at every reply
   calls_but : (f : Sizes → Memory → Call → Reply) → ((z : Sizes) (m : Memory) (k : Call) → But c z m k (f z m k)) → (d : Claim) → d ≢ c → Says d (calling f)
   calls_but f B call_answers ne = λ z m k. (B z m k).answers ne
-  calls_but f B refusals-keep ne = λ z m k. (B z m k).kept ne
+  calls_but f B refusals_keep ne = λ z m k. (B z m k).kept ne
   calls_but f B calls_are_narrow ne = λ z m k. (B z m k).narrow ne
   calls_but f B requests_leave ne = λ z m k. (B z m k).leave ne
-  calls_but f B entries-stored ne = λ z m k. (B z m k).stored ne
-  calls_but f B steps-leave ne = λ z m t. (B z m (SP t)).step ne
+  calls_but f B entries_stored ne = λ z m k. (B z m k).stored ne
+  calls_but f B steps_leave ne = λ z m t. (B z m (SP t)).step ne
   calls_but f B clashes_end ne = λ z m t. (B z m (SP t)).clash ne
-  calls_but f B sound-lasts ne = λ z m ok k. (B z m k).lasts ne ok
+  calls_but f B sound_lasts ne = λ z m ok k. (B z m k).lasts ne ok
   calls_but f B opening_answers ne = O opening_answers
   calls_but f B look_answers ne = O look_answers
   calls_but f B refused_openings_keep ne = O refused_openings_keep

@@ -13,7 +13,7 @@ use Rattle.memory.proofs.Went.{steps-not}
 use Rattle.memory.proofs.SoundLasts.{call-sound}
 use Rattle.memory.proofs.Answers.{one_number, numbers_given}
 use Rattle.memory.proofs.StepAnswers.{ending, moved-given, ended-given}
-use Rattle.memory.proofs.Stepping.{steps-leave, clashes_end}
+use Rattle.memory.proofs.Stepping.{steps_leave, clashes_end}
 use Rattle.memory.proofs.Runs.{not-refused}
 use Rattle.memory.proofs.Tables.{same_all, but_all}
 
@@ -75,7 +75,7 @@ module _ (z : Sizes) (t : ℕ) (lt : t < z.tasks) (b : Memory) where
     same i = entry-from b m z S.entries t i
 
     left : Steps z m t m' p
-    left = subst (Steps z m t m') in_p (steps-leave z m t S.ok lt)
+    left = subst (Steps z m t m') in_p (steps_leave z m t S.ok lt)
 
     -- whom it meets, it meets in Taking, as the owner of this entry's record
     met : (u : ℕ) (g : Goal) (i : ℕ) → Meets z m t u g i → (kind_of p ≡ 2) × (position_of p < n) × (held m (rec (position_of p)) ≡ Owner u)

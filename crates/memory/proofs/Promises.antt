@@ -1,7 +1,7 @@
 -- Every claim of specs/Claims.antt, kept.
 use mathlib.Core.Path.{◌≡◌, sym, ap, ◌∙◌}
 use Rattle.memory.specs.{Spoken, Serial, LookedUp, IsSound, Memory, Answer, Reply, replied, ours, Promised, OneOutcome, EveryClaim}
-use Rattle.memory.specs.Fixed.Claim.{call_answers, opening_answers, look_answers, refusals-keep, refused_openings_keep, calls_are_narrow, requests_leave, entries-stored, steps-leave, clashes_end, sound-lasts, opening_leaves, opening_is_sound}
+use Rattle.memory.specs.Fixed.Claim.{call_answers, opening_answers, look_answers, refusals_keep, refused_openings_keep, calls_are_narrow, requests_leave, entries_stored, steps_leave, clashes_end, sound_lasts, opening_leaves, opening_is_sound}
 use Rattle.memory.proofs.Serial.{always, serial, looked_up}
 use Rattle.memory.proofs.Spoken.{spoken}
 use Rattle.memory.proofs.SoundLasts.{call-sound}
@@ -30,14 +30,14 @@ is_promised : Promised ours
 is_promised call_answers = Answers.call_answers
 is_promised opening_answers = OpenAnswers.opening_answers
 is_promised look_answers = OpenAnswers.look_answers
-is_promised refusals-keep = Narrow.refusals-keep
+is_promised refusals_keep = Narrow.refusals_keep
 is_promised refused_openings_keep = λ z v m. Narrow.refused_openings_keep z m v
 is_promised calls_are_narrow = Narrow.calls_are_narrow
 is_promised requests_leave = Effects.requests_leave
-is_promised entries-stored = Rows.entries-stored
-is_promised steps-leave = Stepping.steps-leave
+is_promised entries_stored = Rows.entries_stored
+is_promised steps_leave = Stepping.steps_leave
 is_promised clashes_end = Stepping.clashes_end
-is_promised sound-lasts = call-sound
+is_promised sound_lasts = call-sound
 is_promised opening_leaves = Effects.opening_leaves
 is_promised opening_is_sound = Rows.opening_is_sound
 

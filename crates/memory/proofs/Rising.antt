@@ -37,7 +37,7 @@ module _ (z : Sizes) (b : Memory) where
     pub own : (w : ℕ) → Up n w → place m w ≡ ended
     pub others : (w : ℕ) → (Up n w → ⊥) → place m w ≡ place b w
     pub words : m.words ≡ b.words
-    pub entries-same : m.entries ≡ b.entries
+    pub entries_same : m.entries ≡ b.entries
     pub freed : (r : ℕ) → r < z.records → (w : ℕ) → Up n w → held b r ≡ Owner w → Freed m r w
     pub kept : (r : ℕ) → r < z.records → ((w : ℕ) → Up n w → held b r ≢ Owner w) → held m r ≡ held b r
 
@@ -62,7 +62,7 @@ module _ (z : Sizes) (b : Memory) where
             own = λ w x. I.own w (less w x);
             others = λ w none. I.others w (λ x. none (up_more x));
             words = I.words;
-            entries-same = I.entries-same;
+            entries_same = I.entries_same;
             freed = λ r h w x q. I.freed r h w (less w x) q;
             kept = λ r h none. I.kept r h (λ w x. none w (up_more x));
           }
@@ -82,7 +82,7 @@ module _ (z : Sizes) (b : Memory) where
         its : (r : ℕ) → r < z.records → held b r ≡ Owner n → Freed m' r n
         its r h q =
             let (j, d, s) = owner_entry z b okb r n h q in
-            let same : entry z m n j ≡ entry z b n j = entry-from b m z I.entries-same n j in
+            let same : entry z m n j ≡ entry z b n j = entry-from b m z I.entries_same n j in
             let there = subst (λ (e : Entry). e ∈ entries z m n) same (entry_in z m I.ok n lt j (omega (arith, d, count_of still))) in
             let mine : held m r ≡ Owner n = I.kept r h (λ w x o. omega (arith, x.0, owner_inj w n (sym o ∙ q))) ∙ q in
             (j, d, s, ap (held m') (sym s) ∙ R.freed (entry z b n j) there (ap (held m) s ∙ mine))
@@ -98,12 +98,12 @@ module _ (z : Sizes) (b : Memory) where
         rose : Risen (suc n) m'
         rose =
             record {
-              ok = subst⁻¹ (λ (k : Memory). sound z k ≡ true) R.is-after (leaves_sound z _ m I.ok);
+              ok = subst⁻¹ (λ (k : Memory). sound z k ≡ true) R.is_after (leaves_sound z _ m I.ok);
               rises = (m, I.rises, λ _. R, λ down. absurd (down (phase_of_lem still ∙ up)));
               own = own;
               others = λ w none. R.others w (λ e. none (subst⁻¹ (Up (suc n)) e last)) ∙ I.others w (λ x. none (up_more x));
               words = R.words ∙ I.words;
-              entries-same = R.entries-same ∙ I.entries-same;
+              entries_same = R.entries_same ∙ I.entries_same;
               freed = freed;
               kept = kept;
             }
@@ -122,7 +122,7 @@ module _ (z : Sizes) (b : Memory) where
         own = λ w x. absurd (omega (arith, x.0));
         others = λ w none. refl;
         words = refl;
-        entries-same = refl;
+        entries_same = refl;
         freed = λ r h w x q. absurd (omega (arith, x.0));
         kept = λ r h none. refl;
       },

@@ -74,17 +74,17 @@ unfolding store
 store_stored z m t a v m₁ n e S =
     if_cases (λ (r : Reply). r.number ≡ 0 → StoredFrom 0 z m t r.after) (eqb e.old.version top_version) _ _ (λ d x. absurd (omega (arith, x))) (λ d x. S)
 
-pub entries-stored : EntriesStored ours
+pub entries_stored : EntriesStored ours
 unfolding call read write
-entries-stored z m (ST t) = tt
-entries-stored z m (CM t) = tt
-entries-stored z m (AB t) = tt
-entries-stored z m (WT t) = tt
-entries-stored z m (SP t) = tt
-entries-stored z m (RD t a) =
+entries_stored z m (ST t) = tt
+entries_stored z m (CM t) = tt
+entries_stored z m (AB t) = tt
+entries_stored z m (WT t) = tt
+entries_stored z m (SP t) = tt
+entries_stored z m (RD t a) =
     addressed_cases z m t a _ _ (Stores z m (RD t a)) (no_refusal 0 refl) (λ ok lt op x. absurd (omega (arith, x)))
     (λ ok lt op w k x. none_stored z m t) (λ ok lt op w k room o x. one_stored z m t a ok lt room)
-entries-stored z m (WR t a v) =
+entries_stored z m (WR t a v) =
     addressed_cases z m t a _ _ (Stores z m (WR t a v)) (no_refusal 0 refl) (λ ok lt op x. absurd (omega (arith, x)))
     (λ ok lt op w k. store_stored z m t a v m _ _ (all_stored z m t _ m _ _ (none_stored z m t) refl (count_most z m ok t lt) (run_fits z m ok t lt)))
     (λ ok lt op w k room o. store_stored z m t a v (added z m t a) _ _

@@ -12,7 +12,7 @@ use Rattle.memory.specs.{Sizes, Phase, Idle, Asleep, Writing, Place, Held, Versi
 use Rattle.memory.proofs.Codes.{count_of}
 use Rattle.memory.proofs.Find.{find?}
 use Rattle.memory.proofs.Stores.{held-from}
-use Rattle.memory.proofs.Facts.{some_record, owner_task, owns_none, entries-same}
+use Rattle.memory.proofs.Facts.{some_record, owner_task, owns_none, entries_same}
 use Rattle.memory.proofs.Fresh.{agreed}
 use Rattle.memory.proofs.Meanings.{logical_means}
 use Rattle.memory.proofs.Invariant.{Pending}
@@ -70,7 +70,7 @@ logical_kept z m m' t ok ok' s K a =
     let h : w < z.tasks = owner_task z m ok (a % z.records) w (mod-lt a (some_record z m ok)) q in
     let ne : w ≢ t = λ e. owns_none z m ok w (ap (λ (x : ℕ). steps (phase m x)) e ∙ s) (a % z.records) (mod-lt a (some_record z m ok)) q in
     let p = keeps_place z m m' t K w ne in
-    (p, entries-same z m m' ok ok' w h (count_of p) (λ j d. K.runs w j ne d)))
+    (p, entries_same z m m' ok ok' w h (count_of p) (λ j d. K.runs w j ne d)))
 
 -- A try that failed, and the ends of the woken ------------------------------------------------------------------------------------------------
 
@@ -94,7 +94,7 @@ module _ (z : Sizes) (m : Memory) (t : ℕ) (ok : sound z m ≡ true) (idle : ph
         let not_t : w ≢ t = λ e. owns_none z m ok w (ap (λ (x : ℕ). steps (phase m x)) e ∙ ap steps idle) r low q in
         let p : place m₂ w ≡ place m w = woke.others w (λ l. n w l q) in (
           p,
-          entries-same z m m₂ ok woke.ok w (owner_task z m ok r w low q) (count_of p) (λ j d. woke.runs w j not_t d),
+          entries_same z m m₂ ok woke.ok w (owner_task z m ok r w low q) (count_of p) (λ j d. woke.runs w j not_t d),
         ))
 
     module _ (w : ℕ) (led : Led m u w) (owned : held m r ≡ Owner w) where

@@ -14,8 +14,8 @@ use Rattle.memory.specs.SlipsRefuted.{SlipsAreRefuted}
 use Rattle.memory.proofs.Machine.{machine}
 use Rattle.memory.proofs.Example.{lent}
 use Rattle.memory.proofs.Breaks.{differ, phase_kind, other_read, other_write, other_step, other_opening, met, owner_ended, after, nothing}
-use Rattle.memory.proofs.SlipsEntries.{rows, six_for_known-read, six_for_known-write, nine_before_six-read, nine_before_six-write, sixty_three-read, sixty_three-write, six_before_five-read, six_before_five-write}
-use Rattle.memory.proofs.SlipsLists.{wakes_one_lem, takers_left_lem, lists_kept_lem, lists_kept_unsound, joins_any_version_lem, differing-wakes, joins_taker_lem, joins_last_lem, idle_stays_listed_lem, passes_way_back_lem}
+use Rattle.memory.proofs.SlipsEntries.{rows, six_for_known_read, six_for_known_write, nine_before_six_read, nine_before_six_write, sixty_three_read, sixty_three_write, six_before_five_read, six_before_five_write}
+use Rattle.memory.proofs.SlipsLists.{wakes_one_lem, takers_left_lem, lists_kept_lem, lists_kept_unsound, joins_any_version_lem, differing_wakes_lem, joins_taker_lem, joins_last_lem, idle_stays_listed_lem, passes_way_back_lem}
 use Rattle.memory.proofs.SlipsWhole.{sleeper_untouched_a_try, sleeper_untouched_a_turn}
 
 -- Boards --------------------------------------------------------------------------------------------------------------------------
@@ -71,14 +71,14 @@ unfolding machine small board_after after nothing stray_owner coming waits four 
 slips_are_refuted =
     record {
       start_resets_another_lem = λ h. differ (λ (l : List ℕ). get_or l 1 0) ((h small (after (ST 1 ∷ [])) (ST 0)).places 1 (eqb-false 1 0 refl)) refl;
-      six_for_known-read = six_for_known-read;
-      six_for_known-write = six_for_known-write;
-      nine_before_six-read = nine_before_six-read;
-      nine_before_six-write = nine_before_six-write;
-      sixty_three-read = sixty_three-read;
-      sixty_three-write = sixty_three-write;
-      six_before_five-read = six_before_five-read;
-      six_before_five-write = six_before_five-write;
+      six_for_known_read = six_for_known_read;
+      six_for_known_write = six_for_known_write;
+      nine_before_six_read = nine_before_six_read;
+      nine_before_six_write = nine_before_six_write;
+      sixty_three_read = sixty_three_read;
+      sixty_three_write = sixty_three_write;
+      six_before_five_read = six_before_five_read;
+      six_before_five_write = six_before_five_write;
       read_keeps_second_lem = other_read read_keeps_second small (after late) 1 3 refl;
       write_keeps_second_lem = other_write write_keeps_second small (after late) 1 3 7 refl;
       reads_bare_word_lem = λ h. eqb-false 0 7 refl ((h small (after (ST 1 ∷ writes7 ++ commits 2)) (RD 1 1)).1.2 refl (λ e k q. Memᴰ.not-nil k));
@@ -93,9 +93,9 @@ slips_are_refuted =
       opens_unsound = λ h. false≢true (h small 1 lent refl);
       asleep_answers_0_lem = other_step asleep_answers_0 small (after sleeping) 1 Asleep refl refl refl;
       third_take_fails_lem = λ h. differ phase_kind ((h four third 0 refl (omega arith)).1 (omega arith) refl).own refl;
-      third_take_fails-alone = λ h. differ (λ (l : List ℕ). get_or l 6 0) (h four first 0 (omega arith) refl refl free) refl;
+      third_take_fails_alone = λ h. differ (λ (l : List ℕ). get_or l 6 0) (h four first 0 (omega arith) refl refl free) refl;
       rests_once_lem = λ h. differ phase_kind ((h small (after (ST 0 ∷ commits 1)) 0 refl (omega arith)).0 refl).own refl;
-      rests_once-alone = λ h.
+      rests_once_alone = λ h.
           differ (λ (l : List ℕ). get_or l 2 0) (h small (after (ST 0 ∷ commits 0)) 0 (omega arith) refl refl (λ e k. absurd (Memᴰ.not-nil k))) refl;
       releases_early_lem = λ h. differ number_of (((h small (after (ST 0 ∷ WR 0 0 5 ∷ WR 0 1 7 ∷ commits 3)) 0 refl (omega arith)).1 (omega arith)).records 0) refl;
       invents_versions_lem = λ h.
@@ -108,26 +108,26 @@ slips_are_refuted =
       sleeper_untouched_a_turn = sleeper_untouched_a_turn;
       comer_untouched_lem = λ h. differ phase_kind (met comer_untouched (coming (writes7 ++ commits 1)) refl refl refl refl h).comer refl;
       comer_steals_lem = λ h. differ (λ (l : List ℕ). get_or l 1 0) (met comer_steals (coming (writes7 ++ commits 1)) refl refl refl refl h).records refl;
-      ends-committed = λ h. differ kind_of (owner_ended (met ends_committed (coming (writes7 ++ commits 2)) refl refl refl refl h)) refl;
+      ends_committed_lem = λ h. differ kind_of (owner_ended (met ends_committed (coming (writes7 ++ commits 2)) refl refl refl refl h)) refl;
       wakes_and_takes_lem = λ h. differ phase_kind (met wakes_and_takes (coming (waits 2)) refl refl refl refl h).comer refl;
       wakes_one_lem = wakes_one_lem;
       takers_left_lem = takers_left_lem;
       lists_kept_lem = lists_kept_lem;
       lists_kept_unsound = lists_kept_unsound;
       joins_any_version_lem = joins_any_version_lem;
-      differing-wakes = differing-wakes;
+      differing_wakes_lem = differing_wakes_lem;
       joins_taker_lem = joins_taker_lem;
       joins_last_lem = joins_last_lem;
       idle_stays_listed_lem = idle_stays_listed_lem;
-      always_refuses = other_read always_refuses small (after (ST 0 ∷ [])) 0 1 refl;
+      always_refuses_lem = other_read always_refuses small (after (ST 0 ∷ [])) 0 1 refl;
       always_fails_lem = other_step always_fails small (after (writes7 ++ commits 5)) 0 Idle refl refl refl;
       changes_nothing_lem = λ h. differ phase_kind (h small (after []) (ST 0) refl).0 refl;
-      opening-changes_nothing = λ h. differ (λ (l : List ℕ). get_or l 0 0) (h small 1 lent refl).words refl;
+      opening_changes_nothing = λ h. differ (λ (l : List ℕ). get_or l 0 0) (h small 1 lent refl).words refl;
       passes_any_owner_lem = λ h. let k = (((h small stray_owner).0 refl).owners 0 9 (omega arith) refl).task in absurd (omega (arith, k));
       passes_way_back_lem = passes_way_back_lem;
       sees_bare_word_lem = λ h.
           eqb-false 0 7 refl (ap (λ (s : Seen). s.value) ((h small (after (writes7 ++ commits 2)) refl 1).known 0 refl _ (Memᴰ.head refl) refl));
-      only-writers = λ h. differ length ((h small 1 lent refl (map request (ST 0 ∷ CM 0 ∷ []))).decided 0 (omega arith) refl) refl;
+      only_writers_lem = λ h. differ length ((h small 1 lent refl (map request (ST 0 ∷ CM 0 ∷ []))).decided 0 (omega arith) refl) refl;
       no_commit_lem = λ h. differ length ((h small 1 lent refl (map request (ST 0 ∷ CM 0 ∷ []))).decided 0 (omega arith) refl) refl;
       counts_no_writer_lem = λ h. eqb-false 2 1 refl (h small 1 lent refl (map request (writes7 ++ commits 2)) 1);
     }

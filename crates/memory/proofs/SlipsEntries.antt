@@ -30,34 +30,34 @@ nearly : sound wide (many (limit wide - 1) 1) ≡ true
 unfolding machine wide rows many
 nearly = refl
 
-pub six_for_known-read : CallAnswers (reading six_for_known) → ⊥
+pub six_for_known_read : CallAnswers (reading six_for_known) → ⊥
 unfolding requests wide rows many
-six_for_known-read = other_read (reading six_for_known) wide (many (limit wide) 2) 0 0 (rw full)
+six_for_known_read = other_read (reading six_for_known) wide (many (limit wide) 2) 0 0 (rw full)
 
-pub six_for_known-write : CallAnswers (writing (λ a v. six_for_known a)) → ⊥
+pub six_for_known_write : CallAnswers (writing (λ a v. six_for_known a)) → ⊥
 unfolding requests wide rows many
-six_for_known-write = other_write (writing (λ a v. six_for_known a)) wide (many (limit wide) 2) 0 0 7 (rw full)
+six_for_known_write = other_write (writing (λ a v. six_for_known a)) wide (many (limit wide) 2) 0 0 7 (rw full)
 
-pub nine_before_six-read : CallAnswers (reading nine_before_six) → ⊥
+pub nine_before_six_read : CallAnswers (reading nine_before_six) → ⊥
 unfolding requests wide rows many
-nine_before_six-read = other_read (reading nine_before_six) wide (many (limit wide) 2) 0 (limit wide) (rw full)
+nine_before_six_read = other_read (reading nine_before_six) wide (many (limit wide) 2) 0 (limit wide) (rw full)
 
-pub nine_before_six-write : CallAnswers (writing (λ a v. nine_before_six a)) → ⊥
+pub nine_before_six_write : CallAnswers (writing (λ a v. nine_before_six a)) → ⊥
 unfolding requests wide rows many
-nine_before_six-write = other_write (writing (λ a v. nine_before_six a)) wide (many (limit wide) 2) 0 (limit wide) 7 (rw full)
+nine_before_six_write = other_write (writing (λ a v. nine_before_six a)) wide (many (limit wide) 2) 0 (limit wide) 7 (rw full)
 
-pub sixty_three-read : CallAnswers (reading sixty_three) → ⊥
+pub sixty_three_read : CallAnswers (reading sixty_three) → ⊥
 unfolding requests wide rows many
-sixty_three-read = other_read (reading sixty_three) wide (many (limit wide - 1) 1) 0 (limit wide) (rw nearly)
+sixty_three_read = other_read (reading sixty_three) wide (many (limit wide - 1) 1) 0 (limit wide) (rw nearly)
 
-pub sixty_three-write : CallAnswers (writing (λ a v. sixty_three a)) → ⊥
+pub sixty_three_write : CallAnswers (writing (λ a v. sixty_three a)) → ⊥
 unfolding requests wide rows many
-sixty_three-write = other_write (writing (λ a v. sixty_three a)) wide (many (limit wide - 1) 1) 0 (limit wide) 7 (rw nearly)
+sixty_three_write = other_write (writing (λ a v. sixty_three a)) wide (many (limit wide - 1) 1) 0 (limit wide) 7 (rw nearly)
 
-pub six_before_five-read : CallAnswers (reading six_before_five) → ⊥
+pub six_before_five_read : CallAnswers (reading six_before_five) → ⊥
 unfolding requests wide rows many
-six_before_five-read = other_read (reading six_before_five) wide (many (limit wide) 2) 0 wide.words (rw full)
+six_before_five_read = other_read (reading six_before_five) wide (many (limit wide) 2) 0 wide.words (rw full)
 
-pub six_before_five-write : CallAnswers (writing (λ a v. six_before_five a)) → ⊥
+pub six_before_five_write : CallAnswers (writing (λ a v. six_before_five a)) → ⊥
 unfolding requests wide rows many
-six_before_five-write = other_write (writing (λ a v. six_before_five a)) wide (many (limit wide) 2) 0 wide.words 7 (rw full)
+six_before_five_write = other_write (writing (λ a v. six_before_five a)) wide (many (limit wide) 2) 0 wide.words 7 (rw full)

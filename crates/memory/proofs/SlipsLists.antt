@@ -93,9 +93,9 @@ pub joins_any_version_lem : ClashesEnd joins_any_version → ⊥
 unfolding machine trio read_at table hers comes
 joins_any_version_lem h = differ phase_kind (fails-alone joins_any_version h).comer refl
 
-pub differing-wakes : ClashesEnd differing_wakes → ⊥
+pub differing_wakes_lem : ClashesEnd differing_wakes → ⊥
 unfolding machine trio read_at table hers comes
-differing-wakes h = differ phase_kind ((fails-alone differing_wakes h).others 1 (eqb-false 1 2 refl)) refl
+differing_wakes_lem h = differ phase_kind ((fails-alone differing_wakes h).others 1 (eqb-false 1 2 refl)) refl
 
 pub joins_taker_lem : ClashesEnd joins_taker → ⊥
 unfolding machine trio read_at table hers comes

@@ -42,7 +42,7 @@ not_woken zero m' W = differ kind_of W.slept refl
 not_woken (suc zero) m' W =
     let z : W.i ≡ 0 = omega (arith, W.within) in
     let a : m' ≡ leaves sleeper_untouched small board (try 0 us 3) =
-    W.is-after ∙ ap (λ (i : ℕ). leaves sleeper_untouched small board (try 0 us (suc i + 2))) z in
+    W.is_after ∙ ap (λ (i : ℕ). leaves sleeper_untouched small board (try 0 us (suc i + 2))) z in
     differ kind_of (sym (ap (λ (m : Memory). phase m 1) a) ∙ (W.woken 1 itself).0) refl
 not_woken (suc (suc u)) m' W = differ kind_of W.slept refl
 

@@ -75,8 +75,8 @@ module _ (z : Sizes) (m : Memory) (t : ℕ) (ok : sound z m ≡ true) (lt : t < 
     λ h. absurd (omega arith),
   )
 
-pub steps-leave : StepsLeave ours
-steps-leave z m t ok lt = go (both (steps (phase m t)))
+pub steps_leave : StepsLeave ours
+steps_leave z m t ok lt = go (both (steps (phase m t)))
   where
     S : Phase → Type 0
     S p = Steps z m t (call z m (SP t)).after p

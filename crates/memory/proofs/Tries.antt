@@ -103,7 +103,7 @@ module _ (z : Sizes) (m : Memory) (t : ℕ) (lt : t < z.tasks) (ok : sound z m �
   through : Free z t lt c n → Through ours z m t us (leaves ours z m (try t us (3 * entered ours z m t us + 3)))
   through f =
       record {
-        is-after = refl;
+        is_after = refl;
         answers = says (3 * n + 2) _ 21 (Over z t lt c) more (commits_so f);
         own = O.own;
         others = λ w ne. O.others w ne ∙ same_place w ne;
@@ -164,7 +164,7 @@ module _ (z : Sizes) (m : Memory) (t : ℕ) (lt : t < z.tasks) (ok : sound z m �
           owned = ((entry z c t i).address, (C.level i h).1, owned);
           i = i;
           within = omega (arith, C.count);
-          is-after = refl;
+          is_after = refl;
           answers = says (i + suc n) _ 22 (Fell z c t u) more R;
           woken = λ w l. let E = (ends w (not_t l)).0 l in (E.phase ∙ ap struck (led_sleeps z m ok calm u asleep l), E);
           others = λ w n. others w n (same? w t);

@@ -115,7 +115,7 @@ module _ (z : Sizes) (m : Memory) (ok : sound z m ≡ true) (u : ℕ) where
 module _ (z : Sizes) (m : Memory) (t : ℕ) (lt : t < z.tasks) (ok : sound z m ≡ true) (calm : Calm z m) (idle : phase m t ≡ Idle) (us : List Use) where
   module _ (u : ℕ) (m₁ : Memory) (W : Wakes ours z m t us u m₁) where
     ok₁ : sound z m₁ ≡ true
-    ok₁ = subst⁻¹ (λ (k : Memory). sound z k ≡ true) W.is-after (leaves_sound z _ m ok)
+    ok₁ = subst⁻¹ (λ (k : Memory). sound z k ≡ true) W.is_after (leaves_sound z _ m ok)
 
     slept : (w : ℕ) → Led m u w → phase m w ≡ Asleep
     slept w l = led_sleeps z m ok calm u W.slept l
@@ -195,7 +195,7 @@ module _ (z : Sizes) (m : Memory) (t : ℕ) (lt : t < z.tasks) (ok : sound z m �
           slept = slept;
           others = others m₂ R;
           words = R.words ∙ W.words;
-          runs = λ w j ne d. entry-from m₁ m₂ z R.entries-same w j ∙ W.runs w j ne d;
+          runs = λ w j ne d. entry-from m₁ m₂ z R.entries_same w j ∙ W.runs w j ne d;
           calm = still_calm m₂ R;
           idle = phase_of_lem (others m₂ R t (λ l. not_t t l refl)) ∙ idle;
           freed = freed m₂ R;

@@ -8,8 +8,8 @@ use Rattle.memory.specs.Stepping.{StepsLeave, ClashesEnd}
 
 pub data Claim : Type 0 where
   call_answers opening_answers look_answers : Claim
-  refusals-keep refused_openings_keep calls_are_narrow : Claim
-  requests_leave entries-stored steps-leave clashes_end sound-lasts : Claim
+  refusals_keep refused_openings_keep calls_are_narrow : Claim
+  requests_leave entries_stored steps_leave clashes_end sound_lasts : Claim
   opening_leaves opening_is_sound : Claim
 
 -- what each says of a machine
@@ -17,14 +17,14 @@ abbrev pub Says : Claim → Machine → Type 0
 Says call_answers M = CallAnswers M
 Says opening_answers M = OpeningAnswers M
 Says look_answers M = LookAnswers M
-Says refusals-keep M = RefusalsKeep M
+Says refusals_keep M = RefusalsKeep M
 Says refused_openings_keep M = RefusedOpeningsKeep M
 Says calls_are_narrow M = CallsAreNarrow M
 Says requests_leave M = RequestsLeave M
-Says entries-stored M = EntriesStored M
-Says steps-leave M = StepsLeave M
+Says entries_stored M = EntriesStored M
+Says steps_leave M = StepsLeave M
 Says clashes_end M = ClashesEnd M
-Says sound-lasts M = SoundLasts M
+Says sound_lasts M = SoundLasts M
 Says opening_leaves M = OpeningLeaves M
 Says opening_is_sound M = OpeningIsSound M
 

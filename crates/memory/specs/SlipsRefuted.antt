@@ -14,14 +14,14 @@ use Rattle.memory.specs.SlipsLists.{wakes_one, takers_left, lists_kept, joins_an
 pub record SlipsAreRefuted : Type 0 where
   -- requests
   pub start_resets_another_lem : CallsAreNarrow start_resets_another → ⊥
-  pub six_for_known-read : CallAnswers (reading six_for_known) → ⊥
-  pub six_for_known-write : CallAnswers (writing (λ a v. six_for_known a)) → ⊥
-  pub nine_before_six-read : CallAnswers (reading nine_before_six) → ⊥
-  pub nine_before_six-write : CallAnswers (writing (λ a v. nine_before_six a)) → ⊥
-  pub sixty_three-read : CallAnswers (reading sixty_three) → ⊥
-  pub sixty_three-write : CallAnswers (writing (λ a v. sixty_three a)) → ⊥
-  pub six_before_five-read : CallAnswers (reading six_before_five) → ⊥
-  pub six_before_five-write : CallAnswers (writing (λ a v. six_before_five a)) → ⊥
+  pub six_for_known_read : CallAnswers (reading six_for_known) → ⊥
+  pub six_for_known_write : CallAnswers (writing (λ a v. six_for_known a)) → ⊥
+  pub nine_before_six_read : CallAnswers (reading nine_before_six) → ⊥
+  pub nine_before_six_write : CallAnswers (writing (λ a v. nine_before_six a)) → ⊥
+  pub sixty_three_read : CallAnswers (reading sixty_three) → ⊥
+  pub sixty_three_write : CallAnswers (writing (λ a v. sixty_three a)) → ⊥
+  pub six_before_five_read : CallAnswers (reading six_before_five) → ⊥
+  pub six_before_five_write : CallAnswers (writing (λ a v. six_before_five a)) → ⊥
   pub read_keeps_second_lem : CallAnswers read_keeps_second → ⊥
   pub write_keeps_second_lem : CallAnswers write_keeps_second → ⊥
   pub reads_bare_word_lem : CallAnswers reads_bare_word → ⊥
@@ -38,9 +38,9 @@ pub record SlipsAreRefuted : Type 0 where
   -- steps
   pub asleep_answers_0_lem : CallAnswers asleep_answers_0 → ⊥
   pub third_take_fails_lem : StepsLeave third_take_fails → ⊥
-  pub third_take_fails-alone : AloneItCommits third_take_fails → ⊥
+  pub third_take_fails_alone : AloneItCommits third_take_fails → ⊥
   pub rests_once_lem : StepsLeave rests_once → ⊥
-  pub rests_once-alone : AloneItCommits rests_once → ⊥
+  pub rests_once_alone : AloneItCommits rests_once → ⊥
   pub releases_early_lem : StepsLeave releases_early → ⊥
   pub invents_versions_lem : StepsLeave invents_versions → ⊥
   pub commits_at_once_lem : StepsLeave commits_at_once → ⊥
@@ -52,7 +52,7 @@ pub record SlipsAreRefuted : Type 0 where
   pub sleeper_untouched_a_turn : WholeTurnsComeThrough sleeper_untouched → ⊥
   pub comer_untouched_lem : ClashesEnd comer_untouched → ⊥
   pub comer_steals_lem : ClashesEnd comer_steals → ⊥
-  pub ends-committed : ClashesEnd ends_committed → ⊥
+  pub ends_committed_lem : ClashesEnd ends_committed → ⊥
   pub wakes_and_takes_lem : ClashesEnd wakes_and_takes → ⊥
   -- lists
   pub wakes_one_lem : ClashesEnd wakes_one → ⊥
@@ -60,20 +60,20 @@ pub record SlipsAreRefuted : Type 0 where
   pub lists_kept_lem : ClashesEnd lists_kept → ⊥
   pub lists_kept_unsound : SoundLasts lists_kept → ⊥
   pub joins_any_version_lem : ClashesEnd joins_any_version → ⊥
-  pub differing-wakes : ClashesEnd differing_wakes → ⊥
+  pub differing_wakes_lem : ClashesEnd differing_wakes → ⊥
   pub joins_taker_lem : ClashesEnd joins_taker → ⊥
   pub joins_last_lem : ClashesEnd joins_last → ⊥
   pub idle_stays_listed_lem : StepsLeave idle_stays_listed → ⊥
   -- all in all
-  pub always_refuses : CallAnswers always_refuses → ⊥
+  pub always_refuses_lem : CallAnswers always_refuses → ⊥
   pub always_fails_lem : CallAnswers always_fails → ⊥
   pub changes_nothing_lem : RequestsLeave changes_nothing → ⊥
-  pub opening-changes_nothing : OpeningLeaves changes_nothing → ⊥
+  pub opening_changes_nothing : OpeningLeaves changes_nothing → ⊥
   -- what the claims lean on
   pub passes_any_owner_lem : SoundMeans passes_any_owner → ⊥
   pub passes_way_back_lem : SoundMeans passes_way_back → ⊥
   pub sees_bare_word_lem : LogicalMeans sees_bare_word → ⊥
   -- histories
-  pub only-writers : CommittedIsListed only_writers → ⊥
+  pub only_writers_lem : CommittedIsListed only_writers → ⊥
   pub no_commit_lem : CommittedIsListed no_commit → ⊥
   pub counts_no_writer_lem : Always counts_no_writer → ⊥

@@ -63,7 +63,7 @@ module _ (M : Machine) where
 
   -- It commits in 3n + 3 steps; then it is Idle again, and every other task is in the place where it was.
   pub record Through (z : Sizes) (m : Memory) (t : ℕ) (us : List Use) (m' : Memory) : Type 0 where
-    pub is-after : m' ≡ leaves M z m (try t us (3 * entered z m t us + 3))
+    pub is_after : m' ≡ leaves M z m (try t us (3 * entered z m t us + 3))
     pub answers : LastSays z m (try t us (3 * entered z m t us + 3)) 21
     pub own : place m' t ≡ bare 0 Idle
     pub others : (w : ℕ) → w ≢ t → place m' w ≡ place m w
@@ -76,7 +76,7 @@ module _ (M : Machine) where
     pub owned : (a : ℕ) × a ∈ map address_of us × (held m (a % z.records) ≡ Owner u)
     pub i : ℕ
     pub within : i < entered z m t us
-    pub is-after : m' ≡ leaves M z m (try t us (suc i + suc (entered z m t us)))
+    pub is_after : m' ≡ leaves M z m (try t us (suc i + suc (entered z m t us)))
     pub answers : LastSays z m (try t us (suc i + suc (entered z m t us))) 22
     pub woken : (w : ℕ) → Led m u w → (phase m' w ≡ Releasing Woken 0) × Ending m u (place m w) (place m' w)
     pub others : (w : ℕ) → (Led m u w → ⊥) → place m' w ≡ place m w
@@ -94,12 +94,12 @@ module _ (M : Machine) where
   -- Its steps, one more than its entries, end with 23. Then it is Idle, every other task is in the place where it was, no word and no
   -- entry has changed; each record that it owned holds the old version again, and every other what it held.
   pub record Rises (z : Sizes) (m : Memory) (u : ℕ) (m' : Memory) : Type 0 where
-    pub is-after : m' ≡ leaves M z m (replicate (suc (place m u).count) (SP u))
+    pub is_after : m' ≡ leaves M z m (replicate (suc (place m u).count) (SP u))
     pub answers : LastSays z m (replicate (suc (place m u).count) (SP u)) 23
     pub own : place m' u ≡ bare 0 Idle
     pub others : (w : ℕ) → w ≢ u → place m' w ≡ place m w
     pub words : m'.words ≡ m.words
-    pub entries-same : m'.entries ≡ m.entries
+    pub entries_same : m'.entries ≡ m.entries
     pub freed : (e : Entry) → e ∈ entries z m u → held m (e.address % z.records) ≡ Owner u → held m' (e.address % z.records) ≡ Version e.old.version
     pub kept : (r : ℕ) → r < z.records → held m r ≢ Owner u → held m' r ≡ held m r
 

@@ -94,7 +94,7 @@ module _ {q : Place} {i : ℕ} {z : Sizes} {places entries : List (List ℕ)} {e
       rw k
       record {
         task_in = (few may_wake).0;
-        some-records = some_record z m₀ w.ok;
+        some_records = some_record z m₀ w.ok;
         few_records = records_most z m₀ w.ok;
         record_in = w.record_in;
         fits = run_fits z m₀ w.ok u owner_in;

@@ -29,7 +29,7 @@ Decides g p v w Clashes = joining g p ≡ false
 -- an owner with so many entries has one on the record
 pub record MayLook (z : Sizes) (count : ℕ) (entries : List (List ℕ)) (owner r : ℕ) : Type 0 where
   pub task_in : owner < most_tasks
-  pub some-records : 0 < z.records
+  pub some_records : 0 < z.records
   pub few_records : z.records ≤ most_records
   pub record_in : r < z.records
   pub fits : run_start z owner + count ≤ length entries

@@ -91,7 +91,7 @@ module _ {q : Place} {z : Sizes} {words records : List ℕ} {places entries : Li
       record {
         leaves = d.leaves m t y.own ∙ sym (ap In e ∙ rw (le-ltb i q.count h));
         count_fits = omega (arith, few, d.same_count);
-        position_fits = omega (arith, d.at-start);
+        position_fits = omega (arith, d.at_start);
       }
 
   pub written : {i : ℕ} → q.phase ≡ Writing i → q.count ≤ i → Leads (goes_to q (Releasing Committed 0) 0)

@@ -34,4 +34,4 @@ ends_by o = goes_to ended Idle (end_number o)
 pub record Decided (q : Place) (g : Goal) (r : Moved) : Type 0 where
   pub leaves : (m : Memory) (t : ℕ) → q ≡ place m t → replied r.answer (set_place m t r.place) ≡ decide m t g
   pub same_count : r.place.count ≡ q.count
-  pub at-start : position_of r.place.phase ≡ 0
+  pub at_start : position_of r.place.phase ≡ 0

@@ -22,7 +22,7 @@ pub room : (z : Sizes) (n : ℕ) → z.records ≤ n → Room z (replicate n 0) 
 room z n h =
     record {
       met_size = omega (arith, length-replicate {A = ℕ} n 0);
-      owned-size = omega (arith, length-replicate n false);
+      owned_size = omega (arith, length-replicate n false);
       unmarked = λ r l. get_or-replicate {A = ℕ} n r 0 0 (omega arith);
       unowned = λ r l. get_or-replicate n r false false (omega arith);
     }

@@ -127,7 +127,7 @@ module _ {z : Sizes} {m : Memory} where
         within = omega arith;
         right = refl;
         marks = λ x l. omega (arith, r.unmarked x l, run-next z 0, limit-some z);
-        owned = vouched_none z m r.owned-size r.unowned;
+        owned = vouched_none z m r.owned_size r.unowned;
         wide = record { addresses = h; met = r.met_size };
         kept = kept_none;
       }

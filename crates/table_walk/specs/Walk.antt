@@ -18,7 +18,7 @@ pub record Fit (z : Sizes) (m : Memory) : Type 0 where
 -- What the walk asks of its room: a cell of each table for every record, none marked and none owned.
 pub record Room (z : Sizes) (met : List ℕ) (owned : List Bool) : Type 0 where
   pub met_size : z.records ≤ length met
-  pub owned-size : z.records ≤ length owned
+  pub owned_size : z.records ≤ length owned
   pub unmarked : (r : ℕ) → r < z.records → get_or met r 0 ≡ 0
   pub unowned : (r : ℕ) → r < z.records → get_or owned r false ≡ false
 
