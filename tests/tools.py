@@ -238,9 +238,12 @@ def tools():
     for name in ("tools/play", "tools/sheet", "tools/archive", "tools/embed", "tools/evening", ".ci/run"):
         helps([name], name)
     helps(["tools/make-session"], "Makes a session file from a schedule in text.")
+    helps(["tools/respell"], "tools/respell [--list]")
     helps(["tests/tools.py"], "Tries every tool and example")
     helps(["tests/sheet.py"], "usage: sheet.py")
     says(["tests/sheet.py", "--fast"], 2, "tests/sheet.py: unrecognized arguments: --fast")
+    says(["tools/respell", "--fast"], 2, "tools/respell: it takes --list or nothing")
+    says(["tools/respell"], 0, "tools/respell: no name is in camel case, so this was done before; nothing is changed")
     for name in ("tools/archive", "tools/embed", ".ci/run", "tests/tools.py"):
         says([name, "--fast"], 2, f"{name}: it takes no argument, and --fast was given")
 
