@@ -4,6 +4,8 @@
 pub mod Machine
 pub mod Tools
 pub mod Sets
+pub mod Bits
+pub mod Gathered
 pub mod Leads
 pub mod Codes
 pub mod Cases

@@ -1,6 +1,7 @@
 -- The memory as definitions, a file for each subject in the order of its specification, then what is promised of them; Claims says
 -- which promises there are. No proof stands here. The proofs of this crate name a definition from here, whichever file has it.
 pub mod Pieces
+pub mod Lent
 pub mod Lists
 pub mod Logical
 pub mod Requests

@@ -5,21 +5,8 @@
 ghost use Rattle.std.specs.Prelude.{◌≡◌, length};
 ghost use Rattle.session_play.specs.Claims.{most_text};
 
-use program_input::read_full;
-use session_play::Played;
+use program_input::{read_full, room};
 use std::io;
-
-// §12.1: one byte past the longest session, to tell 14.
-fn room_for_session() -> [u8; 60001] {
-    [0u8; 60001]
-}
-
-// A buffer of any length.
-fn room<const N: usize>() -> [u8; N]
-    ensures { length result ≡ N }
-{
-    [0u8; N]
-}
 
 // No text is longer, by `text_is_short` in crates/session_play.
 fn room_for_text() -> [u8; session_play::MOST_TEXT]
@@ -30,10 +17,10 @@ fn room_for_text() -> [u8; session_play::MOST_TEXT]
 
 // Prints the text, which was written whole if there was room for it.
 fn print(rt: &impl Print, text: &[u8], length: usize) -> io::Result<()> {
-    if length <= text.len() {
-        rt.write_all(&text[..length])?;
+    match text.get(..length) {
+        Some(whole) => rt.write_all(whole),
+        None => Ok(()),
     }
-    Ok(())
 }
 
 // Plays what was read, on tables of the largest sizes.
@@ -50,14 +37,14 @@ fn play_session(rt: &impl Print, session: &[u8], text: &mut [u8]) -> io::Result<
         &mut entries,
         text,
     );
-    let Played::Whole(length) = played else {
+    let Some(length) = played else {
         return Ok(());
     };
     print(rt, text, length)
 }
 
 fn main(rt: HostRuntime) -> io::Result<()> {
-    let mut session = room_for_session();
+    let mut session = room::<{ session_split::ROOM }>();
     let mut text = room_for_text();
     let length = read_full(&mut rt.reader(), &mut session)?;
     play_session(&rt, &session[..length], &mut text)

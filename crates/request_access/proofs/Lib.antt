@@ -1,4 +1,3 @@
 -- Laws that the proofs of this crate and of its callers share.
-pub mod Searches
 pub mod Addresses
 pub mod Added

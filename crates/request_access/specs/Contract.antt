@@ -1,28 +1,27 @@
 -- What the functions of an access are held to, in the terms of crate memory's definitions (§6.5 to §6.8).
-use Rattle.std.specs.Prelude.{ℕ, ◌<◌, ◌≡◌, true, List}
+use Rattle.std.specs.Prelude.{ℕ, ◌<◌, ◌≡◌, true, Result, Ok, Err}
 use Rattle.memory.specs.declared.Sizes.{Sizes}
 use Rattle.memory.specs.declared.Place.{Place}
 use Rattle.memory.specs.declared.Entry.{Entry}
+use Rattle.memory.specs.declared.refusal.Refusal.{Refusal}
+use Rattle.memory.specs.declared.refusal.Refusal.TheVariants.{Overtaken}
 use Rattle.memory.specs.Pieces.{Memory, is_open, place, limit, ended, set_place}
-use Rattle.memory.specs.Logical.{index_of}
 use Rattle.memory.specs.Sound.{sound}
-use Rattle.memory.specs.Numbers.{Reply, reply, refused}
+use Rattle.memory.specs.Numbers.{Reply, refused, refusal_number}
 use Rattle.memory.specs.Requests.{addressed, known, fresh, added}
-use Rattle.request_fresh.specs.declared.Found.{Found}
-use Rattle.request_fresh.specs.declared.Access.{Access}
-use Rattle.request_fresh.specs.declared.Access.TheVariants.{Refused, Overtaken, Known, New}
-use Rattle.request_fresh.specs.Contract.{found_at}
+use Rattle.request_access.specs.declared.Access.{Access}
+use Rattle.request_access.specs.declared.Access.TheVariants.{Known, New}
 
--- what a search for an address finds
-abbrev pub entry_for : ℕ → List Entry → Found
-entry_for a es = found_at (index_of a es) es
+-- the memory that a Read or Write leaves which goes on so: a refusal leaves all as it was (§9.4), and 9 ends the transaction (§6.7)
+abbrev pub left : Memory → ℕ → Result Access Refusal → Memory
+left m t (Err Overtaken) = set_place m t ended
+left m t w = m
 
--- what a Read or Write answers that goes on so, and what is then shown
-abbrev pub accessed : Memory → ℕ → Access → Reply → Reply → Reply
-accessed m t (Refused n) old new = refused n m
-accessed m t Overtaken old new = reply 9 0 (set_place m t ended)
-accessed m t (Known q e) old new = old
-accessed m t (New q e) old new = new
+-- what it answers, and what is shown
+abbrev pub accessed : Memory → ℕ → Result Access Refusal → Reply → Reply → Reply
+accessed m t (Err r) old new = refused (refusal_number r) (left m t (Err r))
+accessed m t (Ok (Known q e)) old new = old
+accessed m t (Ok (New q e)) old new = new
 
 pub record KnownAt (z : Sizes) (m : Memory) (t a : ℕ) (q : Place) (e : Entry) : Type 0 where
   pub task : t < z.tasks
@@ -40,12 +39,11 @@ pub record NewAt (z : Sizes) (m : Memory) (t a : ℕ) (q : Place) (e : Entry) : 
   pub made : e ≡ fresh z m t a
   pub lasts : sound z (added z m t a) ≡ true
 
-abbrev pub Reached : Sizes → Memory → ℕ → ℕ → Access → Type 0
-Reached z m t a (Refused n) = Unit {0}
-Reached z m t a Overtaken = t < z.tasks
-Reached z m t a (Known q e) = KnownAt z m t a q e
-Reached z m t a (New q e) = NewAt z m t a q e
+abbrev pub Reached : Sizes → Memory → ℕ → ℕ → Result Access Refusal → Type 0
+Reached z m t a (Err r) = r ≡ Overtaken → t < z.tasks
+Reached z m t a (Ok (Known q e)) = KnownAt z m t a q e
+Reached z m t a (Ok (New q e)) = NewAt z m t a q e
 
-pub record Accesses (z : Sizes) (m : Memory) (t a : ℕ) (w : Access) : Type 0 where
+pub record Accesses (z : Sizes) (m : Memory) (t a : ℕ) (w : Result Access Refusal) : Type 0 where
   pub says : (old new : Reply) → addressed z m t a old new ≡ accessed m t w old new
   pub shows : Reached z m t a w

@@ -7,8 +7,9 @@ ghost use Rattle.memory.specs.Pieces.{memory};
 ghost use Rattle.memory.specs.Sound.{sound};
 ghost use Rattle.memory.specs.Numbers.{replied};
 ghost use Rattle.memory.specs.Calls.{call};
+ghost use Rattle.task_permit.specs.Contract.{answered};
 
-use memory::{Answer, Call, EntryRow, PlaceRow, Sizes};
+use memory::{Answer, Call, EntryRow, PlaceRow, Refusal, Sizes};
 
 // §6, §7: the request that is asked.
 #[tactic(auto, unfolding(memory::specs::Calls::call))]
@@ -19,9 +20,9 @@ pub fn ask_sound(
     places: &mut [PlaceRow],
     entries: &mut [EntryRow],
     asked: Call,
-) -> Answer
+) -> Result<Answer, Refusal>
     requires { sound sizes (memory words.old records.old places.old entries.old) ≡ true }
-    ensures { replied result (memory words.new records.new places.new entries.new)
+    ensures { replied (answered result) (memory words.new records.new places.new entries.new)
         ≡ call sizes (memory words.old records.old places.old entries.old) asked }
 {
     match asked {
@@ -37,6 +38,9 @@ pub fn ask_sound(
             sizes, words, records, places, entries, task,
         ),
         Call::WT(task) => request_commit::wait_sound(sizes, words, records, places, entries, task),
-        Call::SP(task) => step_task::step_sound(sizes, words, records, places, entries, task),
+        Call::SP(task) => {
+            let stepped = step_task::step_sound(sizes, words, records, places, entries, task);
+            Ok(stepped)
+        }
     }
 }

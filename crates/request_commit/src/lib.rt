@@ -7,11 +7,13 @@ ghost use Rattle.memory.specs.Pieces.{memory};
 ghost use Rattle.memory.specs.Sound.{sound};
 ghost use Rattle.memory.specs.Numbers.{replied};
 ghost use Rattle.memory.specs.Requests as spec;
+ghost use Rattle.task_permit.specs.Contract.{answered};
 
-use memory::{Answer, EntryRow, Goal, Phase, PlaceRow, Sizes};
-use task_permit::{Needs, Permit};
+use memory::{Answer, EntryRow, Goal, Phase, PlaceRow, Refusal, Sizes};
+use task_permit::Needs;
 
 // §6.14: Commit.
+#[tactic(auto, using(memory::proofs::Facts::places_length))]
 pub fn commit_sound(
     sizes: Sizes,
     words: &[u32],
@@ -19,21 +21,17 @@ pub fn commit_sound(
     places: &mut [PlaceRow],
     entries: &[EntryRow],
     task: usize,
-) -> Answer
+) -> Result<Answer, Refusal>
     requires { sound sizes (memory words.now records.now places.old entries.now) ≡ true }
-    ensures { replied result (memory words.now records.now places.new entries.now) ≡ spec.commit sizes (memory words.now records.now places.old entries.now) task }
+    ensures { replied (answered result) (memory words.now records.now places.new entries.now) ≡ spec.commit sizes (memory words.now records.now places.old entries.now) task }
 {
-    let permit = task_permit::asked(sizes, places, task, Needs::Open);
-    match permit {
-        Permit::Refused(number) => memory::without_value(number),
-        Permit::Granted(place) => {
-            let taking = table_rows::moved(place, Phase::Taking(Goal::Commit, 0));
-            request_phase::placed(places, task, taking, 0)
-        }
-    }
+    let place = task_permit::asked(sizes, places, task, Needs::Open)?;
+    let taking = place.moved(Phase::Taking(Goal::Commit, 0));
+    Ok(request_phase::placed(places, task, taking))
 }
 
 // §6.15: Wait, which 7 refuses where there is nothing to sleep on.
+#[tactic(auto, using(memory::proofs::Facts::places_length))]
 pub fn wait_sound(
     sizes: Sizes,
     words: &[u32],
@@ -41,19 +39,14 @@ pub fn wait_sound(
     places: &mut [PlaceRow],
     entries: &[EntryRow],
     task: usize,
-) -> Answer
+) -> Result<Answer, Refusal>
     requires { sound sizes (memory words.now records.now places.old entries.now) ≡ true }
-    ensures { replied result (memory words.now records.now places.new entries.now) ≡ spec.wait sizes (memory words.now records.now places.old entries.now) task }
+    ensures { replied (answered result) (memory words.now records.now places.new entries.now) ≡ spec.wait sizes (memory words.now records.now places.old entries.now) task }
 {
-    let permit = task_permit::asked(sizes, places, task, Needs::Open);
-    match permit {
-        Permit::Refused(number) => memory::without_value(number),
-        Permit::Granted(place) => {
-            if place.count == 0 {
-                return memory::without_value(7);
-            }
-            let taking = table_rows::moved(place, Phase::Taking(Goal::Sleep, 0));
-            request_phase::placed(places, task, taking, 0)
-        }
+    let place = task_permit::asked(sizes, places, task, Needs::Open)?;
+    if place.count == 0 {
+        return Err(Refusal::NothingRead);
     }
+    let taking = place.moved(Phase::Taking(Goal::Sleep, 0));
+    Ok(request_phase::placed(places, task, taking))
 }

@@ -1,3 +1,2 @@
 -- Laws that the proofs of this crate share.
-mod Searches
 mod Beside

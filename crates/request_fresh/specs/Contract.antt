@@ -1,40 +1,34 @@
 -- What the functions of a new address are held to, in the terms of crate memory's definitions (§6.6 to §6.8).
-use Rattle.std.specs.Prelude.{ℕ, ◌%◌, Bool, false, not, List, eqb, ltb, leb, length, get_or, if◌then◌else◌}
+use Rattle.std.specs.Prelude.{ℕ, ◌%◌, Bool, false, not, List, eqb, leb, Option, Some, None, Result, Ok, Err, if◌then◌else◌}
 use Rattle.memory.specs.declared.Sizes.{Sizes}
-use Rattle.memory.specs.declared.Place.{Place}
 use Rattle.memory.specs.declared.Seen.{Seen}
 use Rattle.memory.specs.declared.Entry.{Entry}
+use Rattle.memory.specs.declared.refusal.Refusal.{Refusal}
+use Rattle.memory.specs.declared.refusal.Refusal.TheVariants.{Full, Overtaken}
 use Rattle.memory.specs.Pieces.{Memory, limit}
-use Rattle.memory.specs.Logical.{blank, index_on}
+use Rattle.memory.specs.Logical.{index_on}
 use Rattle.memory.specs.Requests.{fresh, overtaken}
-use Rattle.request_fresh.specs.declared.Found.{Found}
-use Rattle.request_fresh.specs.declared.Found.TheVariants.{Nothing, First}
-use Rattle.request_fresh.specs.declared.Access.{Access}
-use Rattle.request_fresh.specs.declared.Access.TheVariants.{Refused, Overtaken, New}
+use Rattle.table_search.specs.Contract.{found}
 
--- Searches ----------------------------------------------------------------------------------------------------------------------
+-- the first of some entries on the record of an address
+abbrev pub entry_beside : ℕ → ℕ → List Entry → Option Entry
+entry_beside n a es = found (index_on n (a % n) es) es
 
-unfoldable pub found_at : ℕ → List Entry → Found
-found_at k es = if ltb k (length es) then First (get_or es k blank) else Nothing
+-- what it tells of a new address
+abbrev pub overtaken_by : ℕ → Option Entry → Bool
+overtaken_by v None = false
+overtaken_by v (Some e) = not (eqb v e.old.version)
 
-abbrev pub entry_beside : ℕ → ℕ → List Entry → Found
-entry_beside n a es = found_at (index_on n (a % n) es) es
+abbrev pub version_beside : Seen → Option Entry → ℕ
+version_beside s None = s.version
+version_beside s (Some e) = e.new.version
 
--- A new address ------------------------------------------------------------------------------------------------------------------
-
-abbrev pub overtaken_by : ℕ → Found → Bool
-overtaken_by v Nothing = false
-overtaken_by v (First e) = not (eqb v e.old.version)
-
-abbrev pub version_beside : Seen → Found → ℕ
-version_beside s Nothing = s.version
-version_beside s (First e) = e.new.version
-
-abbrev pub fresh_beside : ℕ → Seen → Found → Entry
+abbrev pub fresh_beside : ℕ → Seen → Option Entry → Entry
 fresh_beside a s b = record { address = a; old = s; new = record { value = s.value; version = version_beside s b } }
 
-unfoldable pub new_access : Sizes → Memory → ℕ → ℕ → Place → Access
-new_access z m t a q =
-    if leb (limit z) q.count then Refused 6 else
-    if overtaken z m t a then Overtaken else
-    New q (fresh z m t a)
+-- the entry for a new address of a task that has so many, or what refuses it
+unfoldable pub new_entry : Sizes → Memory → ℕ → ℕ → ℕ → Result Entry Refusal
+new_entry z m t a n =
+    if leb (limit z) n then Err Full else
+    if overtaken z m t a then Err Overtaken else
+    Ok (fresh z m t a)

@@ -5,6 +5,7 @@ use mathlib.Core.Bool.{Bool, true}
 use mathlib.Core.List.{List}
 use lib.ListN.{length}
 use native.Mathlib.Omega.{arith}
+use Rattle.std.specs.Prelude.{Result, Ok, Err, IsErrAnd}
 use borrow.Author.Tests.{eq-eqb, ne_eqb}
 use Rattle.memory.specs.declared.Sizes.{Sizes}
 use Rattle.memory.specs.declared.Phase.{Phase}
@@ -12,34 +13,28 @@ use Rattle.memory.specs.declared.Place.{Place}
 use Rattle.memory.specs.declared.Answer.{Answer}
 use Rattle.memory.specs.declared.Goal.TheVariants.{Sleep}
 use Rattle.memory.specs.declared.Phase.TheVariants.{Taking}
-use Rattle.memory.specs.Pieces.{Memory, memory, is_open, position_of, place, ended, moved, set_place, move}
+use Rattle.memory.specs.declared.refusal.Refusal.{Refusal}
+use Rattle.memory.specs.Pieces.{Memory, memory, is_open, position_of, place, moved, set_place, move}
 use Rattle.memory.specs.Sound.{sound}
-use Rattle.memory.specs.Numbers.{Reply, reply, replied, plain, refused, asked}
+use Rattle.memory.specs.Numbers.{Reply, reply, replied, refused, refusal_number, asked}
 use Rattle.memory.specs.Requests.{wait}
 use Rattle.memory.proofs.Facts.{counts, in_places}
 use Rattle.memory.proofs.Limits.{limit_most}
-use Rattle.task_permit.specs.declared.Permit.{Permit}
-use Rattle.task_permit.specs.declared.Permit.TheVariants.{Refused, Granted}
-use Rattle.task_permit.specs.Contract.{Permits}
+use Rattle.task_permit.specs.Contract.{Permits, answered}
 use Rattle.task_permit.proofs.Cases.{permit}
 
--- an answer without a value, as a reply
-pub answered : (r : Answer) (n : ℕ) → r ≡ plain n → (m : Memory) → replied r m ≡ refused n m
-answered r n says m = ap (λ (a : Answer). replied a m) says
-
--- a place without a transaction fits a row
-pub no_transaction_fits : {t n : ℕ} {x : Place} → t < n → x ≡ ended → (t < n) × (x.count < 4294967296) × (position_of x.phase < 4294967296)
-no_transaction_fits h made = (h, rw made (omega arith), rw made (omega arith))
-
 -- Of a sound table, and the permit that a request got there: it is the same whatever the other tables hold.
-module _ (z : Sizes) (m : Memory) (ok : sound z m ≡ true) (t : ℕ) (allows : Phase → Bool) (got : Permit)
+module _ (z : Sizes) (m : Memory) (ok : sound z m ≡ true) (t : ℕ) (allows : Phase → Bool) (got : Result Place Refusal)
     (asks : (ws rs : List ℕ) (es : List (List ℕ)) → sound z (memory ws rs m.places es) ≡ true → Permits z (memory ws rs m.places es) t allows got) where
-  pub refuses : (n : ℕ) → got ≡ Refused n → (r : Answer) → r ≡ plain n → (body : Reply) → replied r m ≡ asked z m t allows body
-  refuses n told r says body = answered r n says m ∙ sym ((permit z m ok t allows got asks (Refused n) told).says body)
+  -- refused: what `?` hands on
+  pub refuses : (r : Refusal) → got ≡ Err r → (done : Result Answer Refusal) → IsErrAnd done (λ e. e ≡ r) → (body : Reply)
+      → replied (answered done) m ≡ asked z m t allows body
+  refuses r told (Ok a) says body = absurd says
+  refuses r told (Err e) says body = ap (λ (x : Refusal). refused (refusal_number x) m) says ∙ sym ((permit z m ok t allows got asks (Err r) told).says body)
 
-  module _ (q : Place) (told : got ≡ Granted q) where
-    pub granted : Permits z m t allows (Granted q)
-    granted = permit z m ok t allows got asks (Granted q) told
+  module _ (q : Place) (told : got ≡ Ok q) where
+    pub granted : Permits z m t allows (Ok q)
+    granted = permit z m ok t allows got asks (Ok q) told
 
     pub inside : t < length m.places
     inside = in_places z m ok t granted.shows.0
@@ -58,18 +53,15 @@ module _ (z : Sizes) (m : Memory) (ok : sound z m ≡ true) (t : ℕ) (allows : 
           → (t < length m.places) × (x.count < 4294967296) × (position_of x.phase < 4294967296)
       fits c i = (inside, rw made c, rw made i)
 
-      pub stores : (r : Answer) (after : Memory) → replied r after ≡ reply 0 0 (set_place m t x) → replied r after ≡ reply 0 0 (set_place m t y)
-      stores r after says = says ∙ ap (λ (w : Place). reply 0 0 (set_place m t w)) made
+      pub stores : (r : Answer) (after : Memory) → replied r after ≡ reply 0 0 (set_place m t x) → replied r after ≡ asked z m t allows (reply 0 0 (set_place m t y))
+      stores r after says = says ∙ ap (λ (w : Place). reply 0 0 (set_place m t w)) made ∙ sym (granted.says _)
 
-      pub answers : (r : Answer) (after : Memory) → replied r after ≡ reply 0 0 (set_place m t x) → replied r after ≡ asked z m t allows (reply 0 0 (set_place m t y))
-      answers r after says = stores r after says ∙ sym (granted.says _)
-
-module _ (z : Sizes) (m : Memory) (t : ℕ) (q : Place) (p : Permits z m t is_open (Granted q)) where
+module _ (z : Sizes) (m : Memory) (t : ℕ) (q : Place) (p : Permits z m t is_open (Ok q)) where
   -- Wait by its number of entries
-  pub wait_7 : q.count ≡ 0 → wait z m t ≡ refused 7 m
+  pub wait_7 : q.count ≡ 0 → refused 7 m ≡ wait z m t
   unfolding wait
-  wait_7 e = p.says _ ∙ rw (eq-eqb (place m t).count 0 (ap (λ (x : Place). x.count) p.shows.1 ∙ e))
+  wait_7 e = sym (p.says _ ∙ rw (eq-eqb (place m t).count 0 (ap (λ (x : Place). x.count) p.shows.1 ∙ e)))
 
-  pub wait_0 : (q.count ≡ 0 → ⊥) → wait z m t ≡ reply 0 0 (set_place m t (moved (place m t) (Taking Sleep 0)))
+  pub wait_0 : (q.count ≡ 0 → ⊥) → wait z m t ≡ asked z m t is_open (reply 0 0 (set_place m t (moved (place m t) (Taking Sleep 0))))
   unfolding wait move
-  wait_0 e = p.says _ ∙ rw (ne_eqb (place m t).count 0 (λ k. e (sym (ap (λ (x : Place). x.count) p.shows.1) ∙ k)))
+  wait_0 e = rw (ne_eqb (place m t).count 0 (λ k. e (sym (ap (λ (x : Place). x.count) p.shows.1) ∙ k)))

@@ -3,26 +3,16 @@
 #![tactic(auto)]
 
 ghost use Rattle.std.specs.Prelude.{◌≡◌, true};
-ghost use Rattle.memory.specs.Pieces.{Memory, memory};
+ghost use Rattle.memory.specs.Pieces.{memory};
 ghost use Rattle.memory.specs.Sound.{sound};
-ghost use Rattle.memory.specs.Numbers.{reply, replied};
+ghost use Rattle.memory.specs.Numbers.{replied};
 ghost use Rattle.memory.specs.Requests as spec;
+ghost use Rattle.task_permit.specs.Contract.{answered};
 
-use memory::{Answer, Entry, EntryRow, Place, PlaceRow, Sizes};
-use request_fresh::Access;
+use memory::{Answer, EntryRow, PlaceRow, Refusal, Sizes};
+use request_access::Access;
 
-// The new value of an entry.
-fn new_value(entry: Entry) -> Answer
-    ensures { (m : Memory) → replied result m ≡ reply 0 entry.new.value m }
-{
-    let new = entry.new;
-    Answer {
-        number: 0,
-        value: new.value,
-    }
-}
-
-// §6.9: Read.
+// §6.9: Read answers the new value of the entry.
 pub fn read_sound(
     sizes: Sizes,
     words: &[u32],
@@ -31,18 +21,20 @@ pub fn read_sound(
     entries: &mut [EntryRow],
     task: usize,
     address: usize,
-) -> Answer
+) -> Result<Answer, Refusal>
     requires { sound sizes (memory words.now records.now places.old entries.old) ≡ true }
-    ensures { replied result (memory words.now records.now places.new entries.new) ≡ spec.read sizes (memory words.now records.now places.old entries.old) task address }
+    ensures { replied (answered result) (memory words.now records.now places.new entries.new) ≡ spec.read sizes (memory words.now records.now places.old entries.old) task address }
 {
-    let access = request_access::addressed(sizes, words, records, places, entries, task, address);
-    match access {
-        Access::Refused(number) => memory::without_value(number),
-        Access::Overtaken => request_phase::ended(places, task, 9),
-        Access::Known(_, entry) => new_value(entry),
+    let access = request_access::reached(sizes, words, records, places, entries, task, address)?;
+    let entry = match access {
+        Access::Known(_, entry) => entry,
         Access::New(place, entry) => {
             task_descriptor::add_entry(sizes, places, entries, task, place, entry);
-            new_value(entry)
+            entry
         }
-    }
+    };
+    Ok(Answer {
+        number: 0,
+        value: entry.new.value,
+    })
 }

@@ -1,4 +1,5 @@
 -- What Write answers by the entry that it found or made.
+use Rattle.std.specs.Prelude.{Ok}
 use Prim.Native.Nat.{ℕ, suc, ◌+◌, ◌≤◌}
 use mathlib.Core.Path.{◌≡◌, sym, ap, ◌∙◌}
 use mathlib.Core.Bool.{true, false}
@@ -13,7 +14,7 @@ use Rattle.memory.specs.Pieces.{Memory, place, top_version}
 use Rattle.memory.specs.Numbers.{reply, refused}
 use Rattle.memory.specs.Requests.{write, store, added, written, rewrite}
 use Rattle.task_descriptor.specs.Contract.{Within, grown}
-use Rattle.request_fresh.specs.declared.Access.TheVariants.{Known, New}
+use Rattle.request_access.specs.declared.Access.TheVariants.{Known, New}
 use Rattle.request_access.specs.Contract.{Accesses}
 use Rattle.request_access.proofs.Added.{adds}
 
@@ -38,20 +39,24 @@ store-grown z m with_it same after t a v n e q r k =
     ap (reply 0 0) (r ∙ ap (λ (x : Memory). rewrite z x t (written z.records a v) (n + 1)) q ∙ ap (rewrite z with_it t (written z.records a v)) (add-one n))
     ∙ sym (store_0 z m with_it t a v (suc n) e k)
 
-module _ (z : Sizes) (m : Memory) (t a : ℕ) (q : Place) (e : Entry) where
-  module _ (w : Accesses z m t a (Known q e)) where
-    pub write_known : (v : ℕ) → write z m t a v ≡ store z m m t a v q.count e
+module _ (z : Sizes) (m m' : Memory) (t a : ℕ) (q : Place) (e : Entry) (same : m' ≡ m) where
+  module _ (w : Accesses z m t a (Ok (Known q e))) where
+    pub write_known : (v : ℕ) → store z m' m' t a v q.count e ≡ write z m t a v
     unfolding write
     write_known v =
-        w.says _ _
+        ap (λ (x : Memory). store z x x t a v q.count e) same
+        ∙ sym
+        (w.says _ _
         ∙ ap (λ (x : Entry). store z m m t a v (place m t).count x) (sym w.shows.found)
-        ∙ ap (λ (x : Place). store z m m t a v x.count e) w.shows.here
+        ∙ ap (λ (x : Place). store z m m t a v x.count e) w.shows.here)
 
-  module _ (w : Accesses z m t a (New q e)) where
-    pub write_new : (v : ℕ) → write z m t a v ≡ store z m (grown z m t q e) t a v (suc q.count) e
+  module _ (w : Accesses z m t a (Ok (New q e))) where
+    pub write_new : (v : ℕ) → store z m' (grown z m' t q e) t a v (suc q.count) e ≡ write z m t a v
     unfolding write
     write_new v =
-        w.says _ _
+        ap (λ (x : Memory). store z x (grown z m' t q e) t a v (suc q.count) e) same
+        ∙ ap (λ (x : Memory). store z m x t a v (suc q.count) e) (adds z m m' t a q e w same)
+        ∙ sym
+        (w.says _ _
         ∙ ap (λ (x : Entry). store z m (added z m t a) t a v (suc (place m t).count) x) (sym w.shows.made)
-        ∙ ap (λ (x : Place). store z m (added z m t a) t a v (suc x.count) e) w.shows.here
-        ∙ ap (λ (x : Memory). store z m x t a v (suc q.count) e) (sym (adds z m t a q e w))
+        ∙ ap (λ (x : Place). store z m (added z m t a) t a v (suc x.count) e) w.shows.here)

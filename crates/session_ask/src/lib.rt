@@ -9,23 +9,17 @@ ghost use Rattle.session_fields.specs.Fields as file;
 ghost use Rattle.session_ask.specs.Asking as spec;
 
 use memory::{Answer, Call, EntryRow, PlaceRow, Sizes};
+use session_fields::{ADDRESS, FIRST, RECORDS, TASK, TASKS, VALUE, WORDS, number};
 use session_marks::Kind;
-
-// §11.2: what a record asks: that a board is opened, or a request of a task.
-#[derive(Clone, Copy)]
-pub enum Asked {
-    Board,
-    Request(Call),
-}
 
 // §11.2: the sizes that an opening asks.
 pub fn sizes_of(body: &[u8]) -> Sizes
     ensures { (result ≡ spec.sizes_of body.now) × (result.words < 65536) }
 {
     Sizes {
-        words: session_fields::number(body, Kind::Open, session_fields::WORDS) as usize,
-        records: session_fields::number(body, Kind::Open, session_fields::RECORDS) as usize,
-        tasks: session_fields::number(body, Kind::Open, session_fields::TASKS) as usize,
+        words: number(body, Kind::Open, WORDS) as usize,
+        records: number(body, Kind::Open, RECORDS) as usize,
+        tasks: number(body, Kind::Open, TASKS) as usize,
     }
 }
 
@@ -33,49 +27,30 @@ pub fn sizes_of(body: &[u8]) -> Sizes
 pub fn first_of(body: &[u8]) -> u32
     ensures { result ≡ file.first_version body.now }
 {
-    session_fields::number(body, Kind::Open, session_fields::FIRST)
+    number(body, Kind::Open, FIRST)
 }
 
-// The numbers of a request, which stand as in a WR.
-fn task_of(body: &[u8]) -> usize
-    ensures { result ≡ file.task body.now }
-{
-    session_fields::number(body, Kind::Write, session_fields::TASK) as usize
-}
-
-fn address_of(body: &[u8]) -> usize
-    ensures { result ≡ file.address body.now }
-{
-    session_fields::number(body, Kind::Write, session_fields::ADDRESS) as usize
-}
-
-fn value_of(body: &[u8]) -> u32
-    ensures { result ≡ file.value body.now }
-{
-    session_fields::number(body, Kind::Write, session_fields::VALUE)
-}
-
-fn asked_of(kind: Kind, body: &[u8]) -> Asked
+// §11.2: the request that a record asks, or none where it asks that a board is opened. The numbers of a request stand as in a WR.
+fn asked_of(kind: Kind, body: &[u8]) -> Option<Call>
     ensures { result ≡ spec.asked_of kind body.now }
 {
-    let task = task_of(body);
-    let address = address_of(body);
+    let task = number(body, Kind::Write, TASK) as usize;
+    let address = number(body, Kind::Write, ADDRESS) as usize;
+    let value = number(body, Kind::Write, VALUE);
     match kind {
-        Kind::Open => Asked::Board,
-        Kind::Start => Asked::Request(Call::ST(task)),
-        Kind::Commit => Asked::Request(Call::CM(task)),
-        Kind::Abort => Asked::Request(Call::AB(task)),
-        Kind::Wait => Asked::Request(Call::WT(task)),
-        Kind::Step => Asked::Request(Call::SP(task)),
-        Kind::Read => Asked::Request(Call::RD(task, address)),
-        Kind::Write => {
-            let value = value_of(body);
-            Asked::Request(Call::WR(task, address, value))
-        }
+        Kind::Open => None,
+        Kind::Start => Some(Call::ST(task)),
+        Kind::Commit => Some(Call::CM(task)),
+        Kind::Abort => Some(Call::AB(task)),
+        Kind::Wait => Some(Call::WT(task)),
+        Kind::Step => Some(Call::SP(task)),
+        Kind::Read => Some(Call::RD(task, address)),
+        Kind::Write => Some(Call::WR(task, address, value)),
     }
 }
 
 // A record is asked of the memory.
+#[tactic(auto, unfolding(crate::specs::Asking::requested))]
 pub fn ask(
     sizes: Sizes,
     first: u32,
@@ -89,9 +64,8 @@ pub fn ask(
     ensures { replied result (memory words.new records.new places.new entries.new)
         ≡ spec.requested sizes first (memory words.old records.old places.old entries.old) kind body.now }
 {
-    let asked = asked_of(kind, body);
-    match asked {
-        Asked::Board => calls::open_board(sizes, first, words, records, places, entries),
-        Asked::Request(call) => calls::ask(sizes, words, records, places, entries, call),
+    match asked_of(kind, body) {
+        None => calls::open_board(sizes, first, words, records, places, entries),
+        Some(call) => calls::ask(sizes, words, records, places, entries, call),
     }
 }

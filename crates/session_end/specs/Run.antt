@@ -1,8 +1,9 @@
 -- §12.4, §12.5: what a run of records comes to, and how it ends.
-use Rattle.std.specs.Prelude.{ℕ, List, [], ◌++◌, Bool, true, false, ◌||◌, eqb}
+pub use Rattle.session_end.specs.declared.Ran.{Ran}
+pub use Rattle.session_end.specs.declared.Ran.TheVariants.{Whole, Stopped}
+use Rattle.std.specs.Prelude.{ℕ, Some, None, Ok, Err, List, [], ◌++◌, Bool, true, false, ◌||◌, eqb}
 use Rattle.memory.specs.Pieces.{Memory}
-use Rattle.session_split.specs.declared.Split.{Split}
-use Rattle.session_split.specs.declared.Split.TheVariants.{Record, Refused, End}
+use Rattle.session_split.specs.Session.{Split, number_of}
 use Rattle.session_text.specs.Text.{line}
 
 -- §12.5: the numbers after which nothing more is printed.
@@ -24,6 +25,11 @@ after l r = runs (l ++ r.lines) r.whole r.board
 -- §12.4: a record that is refused has its line too. No session ends at a record (`splits_to_the_end`): that case is there because a
 -- definition answers for every case of its type.
 abbrev pub over : ℕ → Memory → Split → Run
-over i m (Record k) = runs [] true m
-over i m (Refused n) = runs (line i n 0) false m
-over i m End = runs [] true m
+over i m (Ok (Some k)) = runs [] true m
+over i m (Err f) = runs (line i (number_of f) 0) false m
+over i m (Ok None) = runs [] true m
+
+-- whether no record stopped the player
+abbrev pub is_whole : Ran → Bool
+is_whole Whole = true
+is_whole Stopped = false

@@ -7,40 +7,33 @@ ghost use Rattle.memory.specs.Pieces.{Memory};
 ghost use Rattle.session_end.specs.Run as spec;
 ghost use Rattle.session_end.specs.Contract.{Runs, line_room};
 
-use session_split::Split;
+use session_marks::Kind;
+use session_split::Fault;
+use session_text::Out;
 
-// The next place in the buffer after the lines of a run, and whether no record stopped the player.
-#[derive(Clone, Copy)]
-pub struct Ran {
-    pub at: usize,
-    pub whole: bool,
+// How a run went: its records to the last one, or a record that stopped the player.
+#[derive(Clone, Copy, PartialEq, Eq)]
+pub enum Ran {
+    Whole,
+    Stopped,
 }
 
-// §12.5: whether nothing is printed after a line with this number.
+// §12.5: whether nothing is printed after a line with this number. It goes by numbers, as the definition does: a line shows a number,
+// of the memory's or of the file's.
 pub fn stops(number: u32) -> bool
     ensures { result ≡ spec.stops number }
 {
-    match number {
-        2 => true,
-        10 => true,
-        11 => true,
-        12 => true,
-        14 => true,
-        _ => false,
-    }
+    matches!(number, 2 | 10 | 11 | 12 | 14)
 }
 
 // §12.4: the end of a session, at a record that is refused or after the last one.
-pub fn put_end(out: &mut [u8], at: usize, index: u32, end: Split) -> Ran
-    requires { at < 1000000000 }
-    ensures { (m : Memory) → Runs line_room (spec.over index m end) out.old at out.new result.at result.whole m }
+pub fn put_end(out: &mut Out<'_>, index: u32, end: Result<Option<Kind>, Fault>) -> Ran
+    requires { out.old.at < 1000000000 }
+    ensures { (m : Memory) → Runs line_room (spec.over index m end) out.old out.new result m }
 {
-    let Split::Refused(number) = end else {
-        return Ran { at, whole: true };
+    let Err(fault) = end else {
+        return Ran::Whole;
     };
-    let next = session_text::put_line(out, at, index, number, 0);
-    Ran {
-        at: next,
-        whole: false,
-    }
+    out.put_line(index, fault.number(), 0);
+    Ran::Stopped
 }

@@ -1,19 +1,18 @@
 -- What holds of every row of the table of widths, and how its widths add up.
-use Prim.Native.Nat.{ℕ, zero, suc, ◌+◌, ◌≤◌}
+use Prim.Native.Nat.{ℕ, zero, suc, ◌≤◌}
 use mathlib.Core.Path.{◌≡◌, refl}
 use mathlib.Core.List.{List, [], ◌∷◌}
 use mathlib.Core.Bool.{Bool, true, ◌&&◌, ◌||◌}
 use lib.Dec.{leb, eqb}
-use lib.ListN.{length, get_or, take}
-use lib.Seq.{take-nil}
+use lib.ListN.{length, get_or}
 use native.Mathlib.Omega.{arith}
 use borrow.Author.Tests.{leb-true, eqb-true}
 use Rattle.memory.proofs.Tools.{and_0, and_1}
-use Rattle.session_fields.proofs.Numbers.{no_such_byte}
+use Rattle.std.proofs.lemmas.List.{get_or_past}
 use Rattle.session_marks.specs.Marks.{kinds, opens}
 use Rattle.session_marks.specs.declared.Kind.{Kind}
 use Rattle.session_marks.specs.declared.Kind.TheVariants.{Open, Start, Commit, Abort, Wait, Step, Read, Write}
-use Rattle.session_fields.specs.Fields.{total, widths, width, offset, body_length}
+use Rattle.session_fields.specs.Fields.{widths, width, offset}
 
 -- each of some values passes a test
 module _ {A : Type 0} (test : A → Bool) where
@@ -43,13 +42,6 @@ every test h k = go k (each test kinds h)
     go Read e = e.1.1.1.1.1.1.0
     go Write e = e.1.1.1.1.1.1.1.0
 
--- no body is longer than four numbers of four bytes, and its numbers are the four of its row
-pub at_most_sixteen : (k : Kind) → body_length k ≤ 16
-at_most_sixteen k = leb-true (body_length k) 16 (every (λ j. leb (body_length j) 16) refl k)
-
-pub whole_row : (k : Kind) → offset k 4 ≡ body_length k
-whole_row k = eqb-true (offset k 4) (body_length k) (every (λ j. eqb (offset j 4) (body_length j)) refl k)
-
 -- no number is wider than 4 bytes
 abbrev fits : ℕ → Bool
 fits w = leb w 4
@@ -64,7 +56,7 @@ at_most_four k i = fits-at (widths k) i (every (λ j. all fits (widths j)) refl 
 
 -- a row has four numbers
 pub none_behind : (k : Kind) (i : ℕ) → 4 ≤ i → width k i ≡ 0
-none_behind k i h = no_such_byte i (widths k) (omega (arith, eqb-true (length (widths k)) 4 (every (λ j. eqb (length (widths j)) 4) refl k)))
+none_behind k i h = get_or_past (widths k) i 0 (omega (arith, eqb-true (length (widths k)) 4 (every (λ j. eqb (length (widths j)) 4) refl k)))
 
 -- A number of a request stands where it stands in a WR, and is as wide: so `task`, `address` and `value` go by that row.
 abbrev alike : Kind → ℕ → Bool
@@ -72,14 +64,3 @@ alike k i = eqb (width k i) 0 || (eqb (width k i) (width Write i) && eqb (offset
 
 as_in_write : (k : Kind) → (opens k || (alike k 0 && (alike k 1 && (alike k 2 && alike k 3)))) ≡ true
 as_in_write = every (λ k. opens k || (alike k 0 && (alike k 1 && (alike k 2 && alike k 3)))) refl
-
--- one width more, and not more than all
-pub one_more : (ws : List ℕ) (i : ℕ) → total (take (suc i) ws) ≡ total (take i ws) + get_or ws i 0
-one_more [] i = rw take-nil
-one_more (w ∷ ws) zero = omega arith
-one_more (w ∷ ws) (suc i) = omega (arith, one_more ws i)
-
-pub within : (ws : List ℕ) (i : ℕ) → total (take i ws) ≤ total ws
-within [] i = rw take-nil (omega arith)
-within (w ∷ ws) zero = omega arith
-within (w ∷ ws) (suc i) = omega (arith, within ws i)

@@ -1,12 +1,7 @@
 -- §11.2, the numbers in the body of a record, by the table of widths.
-use Rattle.std.specs.Prelude.{ℕ, ◌+◌, ◌*◌, List, [], ◌∷◌, get_or, take, drop}
+use Rattle.std.specs.Prelude.{ℕ, ◌+◌, ◌*◌, List, [], ◌∷◌, get_or, take, drop, sum}
 use Rattle.session_marks.specs.declared.Kind.{Kind}
 use Rattle.session_marks.specs.declared.Kind.TheVariants.{Open, Start, Commit, Abort, Wait, Step, Read, Write}
-
--- how some numbers add up
-abbrev pub total : List ℕ → ℕ
-total [] = 0
-total (n ∷ ns) = n + total ns
 
 -- §11.2: the first byte of a number counts once, and what follows it 256 times.
 unfoldable pub little_endian : List ℕ → ℕ
@@ -37,7 +32,7 @@ abbrev pub width : Kind → ℕ → ℕ
 width k i = get_or (widths k) i 0
 
 abbrev pub offset : Kind → ℕ → ℕ
-offset k i = total (take i (widths k))
+offset k i = sum (take i (widths k))
 
 abbrev pub number : Kind → ℕ → List ℕ → ℕ
 number k i b = number_at (width k i) (offset k i) b
@@ -67,4 +62,4 @@ value b = number Write 2 b
 
 -- the bytes of a body
 abbrev pub body_length : Kind → ℕ
-body_length k = total (widths k)
+body_length k = sum (widths k)

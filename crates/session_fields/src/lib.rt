@@ -2,12 +2,13 @@
 
 #![tactic(auto)]
 
-ghost use Rattle.std.specs.Prelude.{◌≡◌, ◌^◌, ◌<◌, ◌≤◌, get_or};
+ghost use Rattle.std.specs.Prelude.{◌≡◌, ◌^◌, ◌<◌, ◌≤◌, get_or, sum};
 ghost use Rattle.session_fields.specs.Fields as spec;
 
 use session_marks::Kind;
 
 // §11.2: the numbers of an opening and those of a request, by their places in a row of the table of widths.
+// Stay numbers: a sheet counts its columns through the same rows, whatever the kind of the record.
 pub const WORDS: usize = 0;
 
 pub const RECORDS: usize = 1;
@@ -29,11 +30,7 @@ fn widths(kind: Kind) -> [usize; 4]
 {
     match kind {
         Kind::Open => [2, 2, 1, 4],
-        Kind::Start => [1, 0, 0, 0],
-        Kind::Commit => [1, 0, 0, 0],
-        Kind::Abort => [1, 0, 0, 0],
-        Kind::Wait => [1, 0, 0, 0],
-        Kind::Step => [1, 0, 0, 0],
+        Kind::Start | Kind::Commit | Kind::Abort | Kind::Wait | Kind::Step => [1, 0, 0, 0],
         Kind::Read => [1, 2, 0, 0],
         Kind::Write => [1, 2, 4, 0],
     }
@@ -43,8 +40,14 @@ fn widths(kind: Kind) -> [usize; 4]
 pub fn width(kind: Kind, field: usize) -> usize
     ensures { (result ≡ spec.width kind field) × (result ≤ 4) }
 {
-    let row = widths(kind);
-    if field < 4 { row[field] } else { 0 }
+    widths(kind).get(field).copied().unwrap_or(0)
+}
+
+fn total(widths: &[usize]) -> usize
+    requires { sum widths.now < 2 ^ 64 }
+    ensures { result ≡ sum widths.now }
+{
+    widths.iter().sum()
 }
 
 // Where a number of a body begins: behind those before it.
@@ -52,43 +55,34 @@ fn offset(kind: Kind, field: usize) -> usize
     requires { field ≤ 4 }
     ensures { result ≡ spec.offset kind field }
 {
-    let row = widths(kind);
-    let mut sum = 0;
-    for i in 0..field {
-        sum = sum + row[i];
-    }
-    sum
+    total(&widths(kind)[..field])
 }
 
 // How many bytes a body has.
 pub fn body_length(kind: Kind) -> usize
     ensures { result ≡ spec.body_length kind }
 {
-    offset(kind, 4)
+    total(&widths(kind))
 }
 
 // The byte at a place of a body. What is not there counts 0.
 pub fn byte_at(body: &[u8], at: usize) -> u8
     ensures { result ≡ get_or body.now at 0 }
 {
-    if at < body.len() { body[at] } else { 0 }
+    body.get(at).copied().unwrap_or(0)
 }
 
-// The number of so many bytes at a place of a body, from its highest byte down.
+// The number of so many bytes at a place of a body, from its highest byte down. It stays a loop, since a number has one to four bytes.
+// That a width is no more than four stays a clause: every width comes from the table above.
 fn number_at(body: &[u8], width: usize, at: usize) -> u32
-    requires { width ≤ 4 }
+    requires { (width ≤ 4) × (at ≤ 16) }
     ensures { (result ≡ spec.number_at width at body.now) × (result < 256 ^ width) }
 {
-    if body.len() <= at {
-        return 0;
+    let mut number: u32 = 0;
+    for i in (0..width).rev() {
+        number = u32::from(byte_at(body, at + i)) + 256 * number;
     }
-    let mut sum: u32 = 0;
-    let mut left = width;
-    while 0 < left {
-        left = left - 1;
-        sum = byte_at(body, at + left) as u32 + 256 * sum;
-    }
-    sum
+    number
 }
 
 // A number of a body by its place in the table of widths.
@@ -96,6 +90,5 @@ pub fn number(body: &[u8], kind: Kind, field: usize) -> u32
     requires { field < 4 }
     ensures { (result ≡ spec.number kind field body.now) × (result < 256 ^ spec.width kind field) }
 {
-    let row = widths(kind);
-    number_at(body, row[field], offset(kind, field))
+    number_at(body, width(kind, field), offset(kind, field))
 }

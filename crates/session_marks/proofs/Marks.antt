@@ -1,63 +1,48 @@
 -- The bytes in which a kind is found begin with its mark, and bytes that begin with its mark are found as it.
-use Rattle.std.specs.Prelude.{if◌then◌else◌}
+use Rattle.std.specs.Prelude.{Some, cond}
+use Rattle.std.specs.List.{find}
+use Rattle.std.proofs.lemmas.Option.{none-some}
+use Rattle.std.proofs.lemmas.Slice.Eq.{bytes_eq-Decides}
 use Prim.Native.Nat.{ℕ}
-use mathlib.Core.Path.{◌≡◌, refl, sym, ap, ◌∙◌}
+use mathlib.Core.Path.{◌≡◌, refl, sym}
 use mathlib.Core.List.{List, [], ◌∷◌, ◌++◌}
-use mathlib.Core.Bool.{Bool, true, false, not, false≢true}
-use lib.Dec.{ltb, eqb}
-use lib.ListN.{length, get_or, take}
-use native.Mathlib.Omega.{arith}
-use borrow.Author.Tests.{eqb-true, le-ltb}
-use Rattle.memory.proofs.Tools.{and_0, and_1}
-use Rattle.session_marks.specs.Marks.{Kind, Open, Start, Commit, Abort, Wait, Step, Read, Write, Known, mark, begins, kind_among, kind_at}
+use mathlib.Core.Bool.{Bool, true, false}
+use lib.ListN.{length, take}
+use Rattle.session_marks.specs.Marks.{Kind, Open, Start, Commit, Abort, Wait, Step, Read, Write, mark, begins, kind_at}
 
 -- a mark has two bytes
-two_bytes : (k : Kind) → mark k ≡ get_or (mark k) 0 0 ∷ get_or (mark k) 1 0 ∷ []
-two_bytes Open = refl
-two_bytes Start = refl
-two_bytes Commit = refl
-two_bytes Abort = refl
-two_bytes Wait = refl
-two_bytes Step = refl
-two_bytes Read = refl
-two_bytes Write = refl
-
 pub two_long : (k : Kind) → length (mark k) ≡ 2
-two_long k = ap length (two_bytes k)
+two_long Open = refl
+two_long Start = refl
+two_long Commit = refl
+two_long Abort = refl
+two_long Wait = refl
+two_long Step = refl
+two_long Read = refl
+two_long Write = refl
 
 -- the mark that the bytes begin with is their first two
-begun : (k : Kind) (bytes : List ℕ) → begins bytes (mark k) ≡ true → take 2 bytes ≡ mark k
-unfolding begins
-begun k [] e = absurd (false≢true e)
-begun k (a ∷ []) e = absurd (false≢true e)
-begun k (a ∷ b ∷ bytes) e =
-    let alike = and_1 (not (ltb (length (a ∷ b ∷ bytes)) 2)) _ e in
-    let one = eqb-true a (get_or (mark k) 0 0) (and_0 (eqb a (get_or (mark k) 0 0)) (eqb b (get_or (mark k) 1 0)) alike) in
-    let two = eqb-true b (get_or (mark k) 1 0) (and_1 (eqb a (get_or (mark k) 0 0)) (eqb b (get_or (mark k) 1 0)) alike) in
-    rw (one, two) (sym (two_bytes k))
+begun : (k : Kind) (bytes : List ℕ) → begins bytes k ≡ true → take 2 bytes ≡ mark k
+begun k bytes e = rw (← two_long k) (sym ((bytes_eq-Decides (mark k) (take (length (mark k)) bytes)).0 e))
 
 -- the kind that is found has its mark there
-pub found : (ks : List Kind) (bytes : List ℕ) (k : Kind) → kind_among ks bytes ≡ Known k → take 2 bytes ≡ mark k
-unfolding kind_among
-found [] bytes k e = let z : ◌≡◌ {A = ℕ} 0 1 = cc in absurd (omega arith)
-found (j ∷ ks) bytes k e = go (begins bytes (mark j)) refl e (found ks bytes k)
+pub found : (ks : List Kind) (bytes : List ℕ) (k : Kind) → find (begins bytes) ks ≡ Some k → take 2 bytes ≡ mark k
+found [] bytes k e = absurd (none-some k e)
+found (j ∷ ks) bytes k e = go (begins bytes j) refl e (found ks bytes k)
   where
-    go : (b : Bool) → begins bytes (mark j) ≡ b → (if b then Known j else kind_among ks bytes) ≡ Known k
-        → (kind_among ks bytes ≡ Known k → take 2 bytes ≡ mark k) → take 2 bytes ≡ mark k
-    go true q r among = let same : j ≡ k = cc in begun j bytes q ∙ ap mark same
-    go false q r among = among r
-
-enough : (a b : ℕ) (rest : List ℕ) → ltb (length (a ∷ b ∷ rest)) 2 ≡ false
-enough a b rest = le-ltb (length (a ∷ b ∷ rest)) 2 (omega arith)
+    go : (b : Bool) → begins bytes j ≡ b → cond b (Some j) (find (begins bytes) ks) ≡ Some k
+        → (find (begins bytes) ks ≡ Some k → take 2 bytes ≡ mark k) → take 2 bytes ≡ mark k
+    go true is e among = let same : j ≡ k = cc in rw (← same) (begun j bytes is)
+    go false is e among = among e
 
 -- bytes that begin with a mark are found as its kind, whatever follows
-pub known : (k : Kind) (rest : List ℕ) → kind_at (mark k ++ rest) ≡ Known k
-unfolding kind_at kind_among begins
-known Open rest = simp enough
-known Start rest = simp enough
-known Commit rest = simp enough
-known Abort rest = simp enough
-known Wait rest = simp enough
-known Step rest = simp enough
-known Read rest = simp enough
-known Write rest = simp enough
+pub known : (k : Kind) (rest : List ℕ) → kind_at (mark k ++ rest) ≡ Some k
+unfolding kind_at
+known Open rest = refl
+known Start rest = refl
+known Commit rest = refl
+known Abort rest = refl
+known Wait rest = refl
+known Step rest = refl
+known Read rest = refl
+known Write rest = refl

@@ -1,5 +1,5 @@
 -- The board that a session leaves is reached after its opening by the calls of its other records.
-use Rattle.std.specs.Prelude.{if◌then◌else◌}
+use Rattle.std.specs.Prelude.{Option, Some, None, Ok, Err, if◌then◌else◌}
 use Prim.Native.Nat.{ℕ, suc}
 use mathlib.Core.Path.{◌≡◌, refl, sym}
 use mathlib.Core.List.{List, [], ◌∷◌}
@@ -17,22 +17,18 @@ use Rattle.memory.specs.History.{Event, Scene, scene, nothing, next}
 use Rattle.memory.specs.History.Event.{request, opening}
 use Rattle.memory.proofs.Tools.{if_cases}
 use Rattle.memory.proofs.Promises.{every_claim}
-use Rattle.session_split.specs.declared.Split.{Split}
-use Rattle.session_split.specs.declared.Split.TheVariants.{Record, Refused, End}
-use Rattle.session_split.specs.Session.{Piece, Session}
+use Rattle.session_split.specs.Session.{Split, Piece, Session}
 use Rattle.session_split.proofs.Cases.{session_cases}
 use Rattle.session_play.specs.Claims.{ran, Reached, PlayedIsReached}
-use Rattle.session_ask.specs.declared.Asked.{Asked}
-use Rattle.session_ask.specs.declared.Asked.TheVariants.{Board, Request}
 use Rattle.session_ask.specs.Asking.{asked_of, answered, requested}
 use Rattle.session_run.specs.Run.{Run, runs, over, run, stops, run_on}
 use Rattle.session_print.specs.Print.{sizes_asked, first_asked, lent}
 use Rattle.session_print.proofs.Lent.{opening_cases, lent_serves}
 
 -- what a record asks, as an event of the history
-abbrev event_of : Sizes → ℕ → Asked → Event
-event_of z v Board = opening z v
-event_of z v (Request c) = request c
+abbrev event_of : Sizes → ℕ → Option Call → Event
+event_of z v None = opening z v
+event_of z v (Some c) = request c
 
 -- a scene on a board of these sizes and this first version
 record On (z : Sizes) (v : ℕ) (m : Memory) (s : Scene) : Type 0 where
@@ -51,9 +47,9 @@ module _ (z : Sizes) (v : ℕ) where
       (λ done. record { sizes = refl; first = refl; memory = rw on.memory })
       (λ refused. record { sizes = on.sizes; first = on.first; memory = rw on.memory })
 
-  after_one : (m : Memory) (s : Scene) (a : Asked) → On z v m s → On z v (answered z v m a).after (next s (event_of z v a))
-  after_one m s Board on = opened_one m s on
-  after_one m s (Request c) on = asked_one m s c on
+  after_one : (m : Memory) (s : Scene) (a : Option Call) → On z v m s → On z v (answered z v m a).after (next s (event_of z v a))
+  after_one m s None on = opened_one m s on
+  after_one m s (Some c) on = asked_one m s c on
 
   -- so do all of them, if none stops the player
   record Leads (s : Scene) (m : Memory) : Type 0 where
@@ -61,9 +57,9 @@ module _ (z : Sizes) (v : ℕ) where
     on : On z v m (history.ran s events)
 
   at_the_end : (i : ℕ) (m : Memory) (e : Split) (s : Scene) → On z v m s → (over i m e).whole ≡ true → Leads s (over i m e).board
-  at_the_end i m (Record k) s on w = record { events = []; on = on }
-  at_the_end i m (Refused n) s on w = record { events = []; on = on }
-  at_the_end i m End s on w = record { events = []; on = on }
+  at_the_end i m (Ok (Some k)) s on w = record { events = []; on = on }
+  at_the_end i m (Err f) s on w = record { events = []; on = on }
+  at_the_end i m (Ok None) s on w = record { events = []; on = on }
 
   after_all : (i : ℕ) (m : Memory) (ps : List Piece) (e : Split) (s : Scene) → On z v m s → (run z v i m ps e).whole ≡ true → Leads s (run z v i m ps e).board
   unfolding run requested

@@ -1,4 +1,5 @@
 -- Lent tables of the largest sizes, and what the buffer holds after a session was played.
+use Rattle.std.specs.Prelude.{Some, None}
 use Prim.Native.Nat.{ℕ}
 use mathlib.Core.Path.{◌≡◌, refl, sym, ◌∙◌}
 use mathlib.Core.List.{List}
@@ -12,7 +13,7 @@ use Rattle.session_text.specs.Text.{Put, written}
 use Rattle.session_text.proofs.Laws.{stored_front}
 use Rattle.session_print.specs.Print.{text}
 use Rattle.session_print.specs.Contract.{Roomy}
-use Rattle.session_play.specs.Contract.{Whole, TooShort, roomy, playing}
+use Rattle.session_play.specs.Contract.{roomy, playing}
 
 abbrev RoomIn : Memory → Type 0
 RoomIn m = Roomy (length m.words) (length m.records) (length m.places) (length m.entries)
@@ -39,12 +40,12 @@ untrue false h = refl
 
 module _ (m : Memory) (s out : List ℕ) where
   -- a table is too short
-  pub no_room : (RoomIn m → ⊥) → playing m s out ≡ (TooShort, out)
+  pub no_room : (RoomIn m → ⊥) → playing m s out ≡ (None, out)
   unfolding playing
   no_room h = rw (untrue (roomy m) (λ q. h (has_room m q)))
 
   -- the text is put from the first byte of the buffer on
-  pub whole-text : RoomIn m → {most n : ℕ} {left : List ℕ} → Put most out 0 (text s) left n → playing m s out ≡ (Whole n, left)
+  pub whole-text : RoomIn m → {most n : ℕ} {left : List ℕ} → Put most out 0 (text s) left n → playing m s out ≡ (Some n, left)
   unfolding playing
   whole-text room {n = n} {left = left} p =
       let size : length (text s) ≡ n = omega (arith, p.after) in

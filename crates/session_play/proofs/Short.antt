@@ -1,11 +1,10 @@
 -- No text is longer than is claimed: the lines of the records by their number and their digits, and those of the board.
-use Rattle.std.specs.Prelude.{if◌then◌else◌}
+use Rattle.std.specs.Prelude.{Some, None, Ok, Err, if◌then◌else◌}
 use Prim.Native.Nat.{ℕ, zero, suc, ◌+◌, ◌*◌, ◌^◌, ◌<◌, ◌≤◌}
-use mathlib.Core.Path.{◌≡◌, refl, ◌∙◌}
+use mathlib.Core.Path.{◌≡◌, refl}
 use mathlib.Core.List.Memᴰ
 use mathlib.Core.List.{List, [], ◌∷◌}
 use mathlib.Core.Bool.{Bool, true, false, not, ◌&&◌}
-use lib.Dec.{ltb}
 use lib.ListN.{length, take, drop, length-drop, length-append}
 use native.Mathlib.Nat.{pow-suc}
 use native.Mathlib.Omega.{arith}
@@ -17,17 +16,14 @@ use Rattle.memory.specs.Numbers.{Reply}
 use Rattle.memory.specs.Requests.{open_board}
 use Rattle.memory.proofs.Tools.{if_cases, in_take, in_drop}
 use Rattle.memory.proofs.Promises.{every_claim}
-use Rattle.session_marks.specs.Marks.{kind_at}
 use Rattle.session_fields.specs.Fields.{body_length, little_endian, number_at}
 use Rattle.session_fields.specs.Fields as fields
 use Rattle.session_split.specs.Session as file
-use Rattle.session_split.specs.Session.{most_bytes, record_length, misplaced, placed, marked, too_long, split, following, Session, piece, onward, split_all, session}
+use Rattle.session_split.specs.Session.{Split, number_of, most_bytes, record_length, too_long, split, following, Session, piece, onward, split_all, session}
 use Rattle.session_marks.specs.declared.Kind.{Kind}
 use Rattle.session_marks.specs.declared.Kind.TheVariants.{Open, Start, Commit, Abort, Wait, Step, Read, Write}
-use Rattle.session_marks.specs.declared.Marked.{Marked}
-use Rattle.session_marks.specs.declared.Marked.TheVariants.{Known, Unknown}
-use Rattle.session_split.specs.declared.Split.{Split}
-use Rattle.session_split.specs.declared.Split.TheVariants.{Record, Refused, End}
+use Rattle.session_split.specs.declared.Fault.{Fault}
+use Rattle.session_split.specs.declared.Fault.TheVariants.{UnknownMark, CutShort, Misplaced, TooLong}
 use Rattle.session_split.proofs.Cases.{there}
 use Rattle.session_text.specs.Text.{line}
 use Rattle.session_text.proofs.Laws.{line-length}
@@ -65,24 +61,11 @@ three Read = omega arith
 three Write = omega arith
 
 -- a refusal has a number of two digits
-refused_few : (first : Bool) (bytes : List ℕ) (n : ℕ) → split first bytes ≡ Refused n → n < 100
-unfolding split placed
-refused_few first bytes n =
-    if_cases P (too_long first (length bytes)) _ _ (λ long. is 14 (omega arith)) (λ fits.
-    if_cases P (file.over first (length bytes)) _ _ (λ none e. let z : ◌≡◌ {A = ℕ} 0 1 = cc in absurd (omega arith)) (λ some.
-    if_cases P (ltb (length bytes) 2) _ _ (λ one. is 11 (omega arith)) (λ two. with_mark (kind_at bytes))))
-  where
-    P : Split → Type 0
-    P s = s ≡ Refused n → n < 100
-
-    is : (k : ℕ) → k < 100 → P (Refused k)
-    is k h e = let same : k ≡ n = cc in omega (arith, same)
-
-    with_mark : (m : Marked) → P (marked first (length bytes) m)
-    with_mark Unknown = is 10 (omega arith)
-    with_mark (Known k) =
-        if_cases P (misplaced first k) _ _ (λ wrong. is 12 (omega arith)) (λ right.
-        if_cases P (ltb (length bytes) (record_length k)) _ _ (λ short. is 11 (omega arith)) (λ long e. let z : ◌≡◌ {A = ℕ} 0 1 = cc in absurd (omega arith)))
+refused_few : (f : Fault) → number_of f < 100
+refused_few UnknownMark = omega arith
+refused_few CutShort = omega arith
+refused_few Misplaced = omega arith
+refused_few TooLong = omega arith
 
 -- The records ----------------------------------------------------------------------------------------------------------------------------
 
@@ -110,10 +93,10 @@ module _ (z : Sizes) (v : ℕ) where
     lines : length r.lines + 20 * i ≤ 20 * 20001
     board : Values r.board
 
-  ends_short : (i : ℕ) (m : Memory) (e : Split) → i ≤ 20000 → Values m → ((n : ℕ) → e ≡ Refused n → n < 100) → Short i (over i m e)
-  ends_short i m (Record k) h held few = record { lines = omega arith; board = held }
-  ends_short i m (Refused n) h held few = record { lines = omega (arith, line-length 4 1 0 {a = i} {b = n} {c = 0} (omega arith) (omega (arith, few n refl)) (omega arith)); board = held }
-  ends_short i m End h held few = record { lines = omega arith; board = held }
+  ends_short : (i : ℕ) (m : Memory) (e : Split) → i ≤ 20000 → Values m → Short i (over i m e)
+  ends_short i m (Ok (Some k)) h held = record { lines = omega arith; board = held }
+  ends_short i m (Err f) h held = record { lines = omega (arith, line-length 4 1 0 {a = i} {b = number_of f} {c = 0} (omega arith) (omega (arith, refused_few f)) (omega arith)); board = held }
+  ends_short i m (Ok None) h held = record { lines = omega arith; board = held }
 
   -- one record, and what comes after it
   module _ (i : ℕ) (m : Memory) (b : List ℕ) (k : Kind) (values : Values m) (all : Bytes b) (h : i < 20000) where
@@ -139,7 +122,7 @@ module _ (z : Sizes) (v : ℕ) where
       → (too_long first (length bytes) ≡ false → 3 * i + length bytes ≤ most_bytes)
       → let s = split_all n first bytes in Short i (run z v i m s.pieces s.ended)
   unfolding split_all run following file.body
-  run_short zero first bytes i m values all h fits = ends_short i m (split first bytes) h values (refused_few first bytes)
+  run_short zero first bytes i m values all h fits = ends_short i m (split first bytes) h values
   run_short (suc n) first bytes i m values all h fits =
       go (split first bytes) refl (λ k used m' w.
       run_short n false (following k bytes) (suc i) m' w (λ x j. all x (in_drop (record_length k) bytes j)) (omega (arith, used)) (λ e. used))
@@ -150,9 +133,9 @@ module _ (z : Sizes) (v : ℕ) where
       go : (e : Split) → split first bytes ≡ e
           → ((k : Kind) → 3 * suc i + length (following k bytes) ≤ most_bytes → (m' : Memory) → Values m' → Short (suc i) (run z v (suc i) m' (rest k).pieces (rest k).ended))
           → let s = onward bytes e rest in Short i (run z v i m s.pieces s.ended)
-      go (Refused k) q on = ends_short i m (Refused k) h values (λ j e. refused_few first bytes j (q ∙ e))
-      go End q on = ends_short i m End h values (λ j e. refused_few first bytes j (q ∙ e))
-      go (Record k) q on =
+      go (Err f) q on = ends_short i m (Err f) h values
+      go (Ok None) q on = ends_short i m (Ok None) h values
+      go (Ok (Some k)) q on =
           let w = there first bytes k q in
           let used : 3 * suc i + length (following k bytes) ≤ most_bytes = omega (arith, w.whole, fits w.fits, three k, length-drop (record_length k) bytes) in
           one_short i m (file.body k bytes) k values (λ x j. all x (in_drop 2 bytes (in_take (body_length k) (drop 2 bytes) j))) (omega (arith, used)) (rest k) (on k used)

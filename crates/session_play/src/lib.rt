@@ -11,15 +11,9 @@ use memory::{EntryRow, PlaceRow};
 // Bytes of the longest text there is: the claim `TextIsShort` in specs/.
 pub const MOST_TEXT: usize = 518804;
 
-// How many bytes the whole text has; or a lent table is too short, and nothing was written.
-#[derive(Clone, Copy)]
-pub enum Played {
-    Whole(usize),
-    TooShort,
-}
-
 // Plays a session once, and prints as C's snprintf does: it answers the length of the whole text and writes as much of it as the
-// lent buffer holds. No byte 0 ends it. The lent tables are of the largest sizes.
+// lent buffer holds. No byte 0 ends it. The lent tables are of the largest sizes: where one is too short, nothing is written, and no
+// length is answered.
 pub fn play(
     session: &[u8],
     words: &mut [u32],
@@ -27,21 +21,16 @@ pub fn play(
     places: &mut [PlaceRow],
     entries: &mut [EntryRow],
     out: &mut [u8],
-) -> Played
+) -> Option<usize>
     ensures { playing (memory words.old records.old places.old entries.old)
         session.now out.old ≡ (result, out.new) }
 {
-    if words.len() < memory::MOST_WORDS {
-        return Played::TooShort;
+    if words.len() < memory::MOST_WORDS
+        || records.len() < memory::MOST_RECORDS
+        || places.len() < memory::MOST_TASKS
+        || entries.len() < memory::MOST_ROWS
+    {
+        return None;
     }
-    if records.len() < memory::MOST_RECORDS {
-        return Played::TooShort;
-    }
-    if places.len() < memory::MOST_TASKS {
-        return Played::TooShort;
-    }
-    if entries.len() < memory::MOST_ROWS {
-        return Played::TooShort;
-    }
-    Played::Whole(session_print::run(session, words, records, places, entries, out))
+    Some(session_print::run(session, words, records, places, entries, out))
 }

@@ -1,6 +1,6 @@
 -- What tables of the sizes asked hold before the opening has no part in the text.
 use Rattle.std.specs.Prelude.{if◌then◌else◌}
-use Prim.Native.Nat.{ℕ, ◌*◌, ◌≤◌}
+use Prim.Native.Nat.{ℕ, ◌*◌, ◌≤◌, min}
 use mathlib.Core.Path.{◌≡◌, refl, sym, ap, ◌∙◌}
 use mathlib.Core.List.{List, []}
 use mathlib.Core.Bool.{Bool, true, false, not, ◌&&◌, false≢true}
@@ -39,18 +39,17 @@ run_fits z t e room few is = omega (arith, runs_most z t few, room.for_entries, 
 
 -- the parts of roomy tables that the sizes ask
 pub parts_serve : (z : Sizes) (ws rs : List ℕ) (ps es : List (List ℕ)) (w r t e : ℕ) → Roomy (length ws) (length rs) (length ps) (length es)
-    → (w ≤ most_words) × (z.words ≤ most_words → w ≡ z.words) → (r ≤ most_records) × (z.records ≤ most_records → r ≡ z.records)
-    → (t ≤ most_tasks) × (z.tasks ≤ most_tasks → t ≡ z.tasks) → e ≡ run_start z t
+    → w ≡ min z.words most_words → r ≡ min z.records most_records → t ≡ min z.tasks most_tasks → e ≡ run_start z t
     → Serves z (memory (take w ws) (take r rs) (take t ps) (take e es))
 unfolding sizes_ok within lengths_ok
 parts_serve z ws rs ps es w r t e room hw hr ht he ok =
-    let words : w ≡ z.words = hw.1 (leb-true _ _ (search (and_0, and_1))) in
-    let records : r ≡ z.records = hr.1 (leb-true _ _ (search (and_0, and_1))) in
-    let tasks : t ≡ z.tasks = ht.1 (leb-true _ _ (search (and_0, and_1))) in
-    and_make (and_make (and_make (eq-eqb _ _ (length-take-le w ws (omega (arith, room.for_words, hw.0)) ∙ words))
-    (eq-eqb _ _ (length-take-le r rs (omega (arith, room.for_records, hr.0)) ∙ records)))
-    (eq-eqb _ _ (length-take-le t ps (omega (arith, room.for_tasks, ht.0)) ∙ tasks)))
-    (eq-eqb _ _ (length-take-le e es (run_fits z t e room ht.0 he) ∙ he ∙ ap (run_start z) tasks ∙ sym (run_last z)))
+    let words : w ≡ z.words = omega (arith, hw, leb-true z.words most_words (search (and_0, and_1))) in
+    let records : r ≡ z.records = omega (arith, hr, leb-true z.records most_records (search (and_0, and_1))) in
+    let tasks : t ≡ z.tasks = omega (arith, ht, leb-true z.tasks most_tasks (search (and_0, and_1))) in
+    and_make (and_make (and_make (eq-eqb _ _ (length-take-le w ws (omega (arith, room.for_words, hw)) ∙ words))
+    (eq-eqb _ _ (length-take-le r rs (omega (arith, room.for_records, hr)) ∙ records)))
+    (eq-eqb _ _ (length-take-le t ps (omega (arith, room.for_tasks, ht)) ∙ tasks)))
+    (eq-eqb _ _ (length-take-le e es (run_fits z t e room (omega arith) he) ∙ he ∙ ap (run_start z) tasks ∙ sym (run_last z)))
 
 -- an opening of them: refused with 2, or done
 module _ (z : Sizes) (v : ℕ) (m : Memory) (serves : Serves z m) where

@@ -1,5 +1,5 @@
 -- What is left to run of a session from one of its places on: one record more, or the end.
-use Rattle.std.specs.Prelude.{if◌then◌else◌}
+use Rattle.std.specs.Prelude.{Some, Ok, if◌then◌else◌}
 use Prim.Native.Nat.{ℕ, suc, ◌+◌, ◌<◌}
 use mathlib.Core.Path.{◌≡◌}
 use mathlib.Core.List.{List, []}
@@ -10,9 +10,7 @@ use Rattle.memory.specs.declared.Sizes.{Sizes}
 use Rattle.memory.specs.Pieces.{Memory}
 use Rattle.memory.specs.Numbers.{Reply}
 use Rattle.session_marks.specs.declared.Kind.{Kind}
-use Rattle.session_split.specs.declared.Split.{Split}
-use Rattle.session_split.specs.declared.Split.TheVariants.{Record}
-use Rattle.session_split.specs.Session.{body, record_length, split}
+use Rattle.session_split.specs.Session.{Split, body, record_length, split}
 use Rattle.session_split.proofs.Rest as rest
 use Rattle.session_split.proofs.Rest.{rest_of, one_split}
 use Rattle.session_text.specs.Text.{line}
@@ -29,7 +27,7 @@ module _ (z : Sizes) (v : ℕ) (s : List ℕ) where
   unfolding rest_run run_on
   all_of_it m = rw (rest.all_of_it s)
 
-  pub ends_here : (m : Memory) (i from : ℕ) (e : Split) → split (eqb i 0) (drop from s) ≡ e → ((k : Kind) → e ≡ Record k → ⊥)
+  pub ends_here : (m : Memory) (i from : ℕ) (e : Split) → split (eqb i 0) (drop from s) ≡ e → ((k : Kind) → e ≡ Ok (Some k) → ⊥)
       → rest_run z v s m i from ≡ over i m e
   unfolding rest_run run
   ends_here m i from e q none = rw (rest.ends_here s i from e q none)
@@ -39,7 +37,7 @@ module _ (z : Sizes) (v : ℕ) (s : List ℕ) where
   on_from i from k r =
       after (line i r.number r.value) (if stops r.number then runs [] false r.after else rest_run z v s r.after (suc i) (from + record_length k))
 
-  pub one_more : (m : Memory) (i from : ℕ) (k : Kind) → i < length s → split (eqb i 0) (drop from s) ≡ Record k
+  pub one_more : (m : Memory) (i from : ℕ) (k : Kind) → i < length s → split (eqb i 0) (drop from s) ≡ Ok (Some k)
       → rest_run z v s m i from ≡ on_from i from k (requested z v m k (body k (drop from s)))
   unfolding rest_run run
   one_more m i from k h q = rw (one_split s i from k h q)

@@ -2,8 +2,7 @@
 use Rattle.std.specs.Prelude.{ℕ, suc, List, [], ◌∷◌, false, if◌then◌else◌}
 use Rattle.memory.specs.declared.Sizes.{Sizes}
 use Rattle.memory.specs.Pieces.{Memory}
-use Rattle.session_split.specs.Session.{Piece, session}
-use Rattle.session_split.specs.declared.Split.{Split}
+use Rattle.session_split.specs.Session.{Split, Piece, session}
 use Rattle.session_text.specs.Text.{line}
 use Rattle.session_ask.specs.Asking.{requested}
 pub use Rattle.session_end.specs.Run.{Run, runs, after, over, stops}

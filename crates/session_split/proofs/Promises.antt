@@ -1,4 +1,5 @@
 -- The promises of specs/Session.antt, kept.
+use Rattle.std.specs.Prelude.{Some, None, Ok, Err}
 use Prim.Native.Nat.{ℕ, zero, suc, ◌≤◌}
 use mathlib.Core.Path.{◌≡◌, refl, ◌∙◌}
 use mathlib.Core.List.{List, [], ◌++◌, append_assoc}
@@ -9,7 +10,7 @@ use native.Mathlib.Omega.{arith}
 use Rattle.session_marks.specs.Marks.{mark}
 use Rattle.session_marks.specs.declared.Kind.{Kind}
 use Rattle.session_fields.specs.Fields.{body_length}
-use Rattle.session_split.specs.Session.{Record, Refused, End, record_length, body, following, Session, encoded, onward, split_all, session, SplitKeepsTheBytes, SplitsToTheEnd}
+use Rattle.session_split.specs.Session.{Fault, Split, record_length, body, following, Session, encoded, onward, split_all, session, SplitKeepsTheBytes, SplitsToTheEnd}
 use Rattle.session_split.proofs.Cases.{split_cases, refused-apart, end_apart}
 
 -- a record's mark and body, and what follows it
@@ -28,7 +29,7 @@ all_kept zero first bytes = refl
 all_kept (suc n) first bytes =
     split_cases first bytes
     (λ s. encoded (onward bytes s (later n bytes)).pieces ++ (onward bytes s (later n bytes)).left ≡ bytes)
-    (λ r. refl)
+    (λ f. refl)
     (λ later none. refl)
     (λ k is-there. append_assoc (mark k ++ body k bytes) _ _ ∙ rw (all_kept n false (following k bytes)) (one_record k bytes is-there.marks))
 
@@ -38,10 +39,10 @@ split_keeps_the_bytes bytes = all_kept (length bytes) true bytes
 
 -- neither in the middle of the session nor before its end
 abbrev Ended : Session → Type 0
-Ended s = ((k : Kind) → s.ended ≡ Record k → ⊥) × (s.ended ≡ End → s.left ≡ [])
+Ended s = ((k : Kind) → s.ended ≡ Ok (Some k) → ⊥) × (s.ended ≡ Ok None → s.left ≡ [])
 
-refused_no_end : (r : ℕ) → Refused r ≡ End → ⊥
-refused_no_end r e = let z : ◌≡◌ {A = ℕ} 0 1 = cc in omega arith
+refused_no_end : (f : Fault) → ◌≡◌ {A = Split} (Err f) (Ok None) → ⊥
+refused_no_end f e = cc
 
 shorter : (n : ℕ) (k : Kind) (bytes : List ℕ) → length bytes ≤ suc n → record_length k ≤ length bytes → length (following k bytes) ≤ n
 unfolding following
@@ -50,13 +51,13 @@ shorter n k bytes h whole = omega (arith, length-drop (record_length k) bytes)
 all_split : (n : ℕ) (first : Bool) (bytes : List ℕ) → length bytes ≤ n → Ended (split_all n first bytes)
 unfolding split_all
 all_split zero first bytes h =
-    split_cases first bytes (λ s. ((k : Kind) → s ≡ Record k → ⊥) × (s ≡ End → bytes ≡ []))
-    (λ r. (λ k. refused-apart r k, λ e. absurd (refused_no_end r e)))
+    split_cases first bytes (λ s. ((k : Kind) → s ≡ Ok (Some k) → ⊥) × (s ≡ Ok None → bytes ≡ []))
+    (λ f. (λ k. refused-apart f k, λ e. absurd (refused_no_end f e)))
     (λ later none. (λ k. end_apart k, λ e. none))
     (λ k is-there. absurd (omega (arith, is-there.whole)))
 all_split (suc n) first bytes h =
     split_cases first bytes (λ s. Ended (onward bytes s (later n bytes)))
-    (λ r. (λ k. refused-apart r k, λ e. absurd (refused_no_end r e)))
+    (λ f. (λ k. refused-apart f k, λ e. absurd (refused_no_end f e)))
     (λ later none. (λ k. end_apart k, λ e. none))
     (λ k is-there. all_split n false (following k bytes) (shorter n k bytes h is-there.whole))
 

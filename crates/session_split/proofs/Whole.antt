@@ -1,5 +1,5 @@
 -- A whole record before whatever follows: what is split off, its body, and what is left.
-use Rattle.std.specs.Prelude.{if◌then◌else◌}
+use Rattle.std.specs.Prelude.{Some, Ok, Err, if◌then◌else◌}
 use Prim.Native.Nat.{ℕ, ◌+◌, ◌≤◌}
 use mathlib.Core.Path.{◌≡◌, ap, ◌∙◌}
 use mathlib.Core.List.{List, ◌++◌, append_assoc}
@@ -10,10 +10,9 @@ use native.Mathlib.Omega.{arith}
 use borrow.Author.Tests.{le-ltb, ne_eqb}
 use Rattle.session_marks.specs.Marks.{mark, kind_at}
 use Rattle.session_marks.specs.declared.Kind.{Kind}
-use Rattle.session_marks.specs.declared.Marked.TheVariants.{Known}
 use Rattle.session_marks.proofs.Marks.{known, two_long}
 use Rattle.session_fields.specs.Fields.{body_length}
-use Rattle.session_split.specs.Session.{Record, Refused, record_length, body, following, misplaced, placed, too_long, over, split}
+use Rattle.session_split.specs.Session.{Misplaced, record_length, body, following, misplaced, placed, too_long, over, split}
 
 module _ (k : Kind) (b rest : List ℕ) (whole : length b ≡ body_length k) where
   -- the record and what follows it
@@ -31,7 +30,7 @@ module _ (k : Kind) (b rest : List ℕ) (whole : length b ≡ body_length k) whe
   unfolding following
   its_rest = drop_at (mark k ++ b) rest (record_length k) (omega (arith, length-append (mark k) b, two_long k))
 
-  pub splits_off : (first : Bool) → too_long first (length bytes) ≡ false → split first bytes ≡ (if misplaced first k then Refused 12 else Record k)
+  pub splits_off : (first : Bool) → too_long first (length bytes) ≡ false → split first bytes ≡ (if misplaced first k then Err Misplaced else Ok (Some k))
   unfolding split placed
   splits_off first fits = rw (fits, not-over, le-ltb (length bytes) 2 two, kind_is, le-ltb (length bytes) (record_length k) all)
     where
@@ -44,5 +43,5 @@ module _ (k : Kind) (b rest : List ℕ) (whole : length b ≡ body_length k) whe
       not-over : over first (length bytes) ≡ false
       not-over = ap (λ (x : Bool). not first && x) (ne_eqb (length bytes) 0 (λ e. omega (arith, two))) ∙ and-false (not first)
 
-      kind_is : kind_at bytes ≡ Known k
+      kind_is : kind_at bytes ≡ Some k
       kind_is = rw append_assoc (known k (b ++ rest))

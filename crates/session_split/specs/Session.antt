@@ -1,12 +1,21 @@
 -- §11, the session file: how a record is split off the bytes that are left, and the whole session as its records.
-pub use Rattle.session_split.specs.declared.Split.{Split}
-pub use Rattle.session_split.specs.declared.Split.TheVariants.{Record, Refused, End}
-use Rattle.std.specs.Prelude.{ℕ, zero, suc, ◌+◌, ◌≡◌, List, [], ◌∷◌, ◌++◌, Bool, true, false, not, ◌&&◌, length, take, drop, ltb, eqb, if◌then◌else◌}
+pub use Rattle.session_split.specs.declared.Fault.{Fault}
+pub use Rattle.session_split.specs.declared.Fault.TheVariants.{UnknownMark, CutShort, Misplaced, TooLong}
+use Rattle.std.specs.Prelude.{ℕ, zero, suc, ◌+◌, ◌≡◌, Option, Some, None, Result, Ok, Err, List, [], ◌∷◌, ◌++◌, Bool, true, false, not, ◌&&◌, length, take, drop, ltb, eqb, if◌then◌else◌}
 use Rattle.session_marks.specs.Marks.{mark, kind_at, opens}
 use Rattle.session_marks.specs.declared.Kind.{Kind}
-use Rattle.session_marks.specs.declared.Marked.{Marked}
-use Rattle.session_marks.specs.declared.Marked.TheVariants.{Known, Unknown}
 use Rattle.session_fields.specs.Fields.{body_length}
+
+-- What splitting a record off answers: the record's kind, nothing where the session ends, or why the record is refused.
+abbrev pub Split : Type 0
+Split = Result (Option Kind) Fault
+
+-- §11.6: the numbers that refuse a record
+abbrev pub number_of : Fault → ℕ
+number_of UnknownMark = 10
+number_of CutShort = 11
+number_of Misplaced = 12
+number_of TooLong = 14
 
 -- §11.1: the longest session.
 abbrev pub most_bytes : ℕ
@@ -29,13 +38,13 @@ misplaced first k = if opens k then not first else first
 
 unfoldable pub placed : Bool → ℕ → Kind → Split
 placed first n k =
-    if misplaced first k then Refused 12 else
-    if ltb n (record_length k) then Refused 11 else
-    Record k
+    if misplaced first k then Err Misplaced else
+    if ltb n (record_length k) then Err CutShort else
+    Ok (Some k)
 
-abbrev pub marked : Bool → ℕ → Marked → Split
-marked first n Unknown = Refused 10
-marked first n (Known k) = placed first n k
+abbrev pub marked : Bool → ℕ → Option Kind → Split
+marked first n None = Err UnknownMark
+marked first n (Some k) = placed first n k
 
 -- §11.6: 14 is told at the first record, where the whole session is left.
 abbrev pub too_long : Bool → ℕ → Bool
@@ -48,9 +57,9 @@ over first n = not first && eqb n 0
 -- a record split off what is left of a session
 unfoldable pub split : Bool → List ℕ → Split
 split first bytes =
-    if too_long first (length bytes) then Refused 14 else
-    if over first (length bytes) then End else
-    if ltb (length bytes) 2 then Refused 11 else
+    if too_long first (length bytes) then Err TooLong else
+    if over first (length bytes) then Ok None else
+    if ltb (length bytes) 2 then Err CutShort else
     marked first (length bytes) (kind_at bytes)
 
 -- The whole session ----------------------------------------------------------------------------------------------------------------
@@ -76,9 +85,9 @@ abbrev pub before : Piece → Session → Session
 before p s = record { pieces = p ∷ s.pieces; ended = s.ended; left = s.left }
 
 abbrev pub onward : List ℕ → Split → (Kind → Session) → Session
-onward bytes (Record k) rest = before (piece k (body k bytes)) (rest k)
-onward bytes (Refused n) rest = ending (Refused n) bytes
-onward bytes End rest = ending End bytes
+onward bytes (Ok (Some k)) rest = before (piece k (body k bytes)) (rest k)
+onward bytes (Err f) rest = ending (Err f) bytes
+onward bytes (Ok None) rest = ending (Ok None) bytes
 
 -- at most so many records
 unfoldable pub split_all : ℕ → Bool → List ℕ → Session
@@ -103,5 +112,5 @@ SplitKeepsTheBytes = (bytes : List ℕ) → encoded (session bytes).pieces ++ (s
 abbrev pub SplitsToTheEnd : Type 0
 SplitsToTheEnd =
     (bytes : List ℕ)
-    → ((k : Kind) → (session bytes).ended ≡ Record k → ⊥)
-    × ((session bytes).ended ≡ End → (session bytes).left ≡ [])
+    → ((k : Kind) → (session bytes).ended ≡ Ok (Some k) → ⊥)
+    × ((session bytes).ended ≡ Ok None → (session bytes).left ≡ [])

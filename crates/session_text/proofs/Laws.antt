@@ -9,8 +9,10 @@ use native.Mathlib.Omega.{arith}
 use borrow.Author.Tests.{lt-ltb, le-ltb, ltb-true, ltb-false}
 use lib.Dec.{ltb}
 use lib.ListN.{length, set, length-append}
-use lib.Seq.{drop-nil, set_out}
+use lib.Seq.{drop-nil}
 use Rattle.session_text.specs.Text.{last_digits, digits, line, word_line, stored, written, Put}
+use Rattle.session_text.specs.Out.{Puts}
+use Rattle.session_text.specs.declared.Out.{Out}
 
 -- one digit, or more than one
 one_or_more : (n : ℕ) → (n < 10) ⊎ (10 ≤ n)
@@ -79,14 +81,17 @@ stored_append out at [] ys = simp add-zero
 stored_append out at (x ∷ xs) ys =
     stored_append (set out at x) (suc at) xs ys ∙ ap (λ (k : ℕ). stored (stored out at (x ∷ xs)) k ys) (omega arith)
 
-pub follow : {m k : ℕ} {out mid left : List ℕ} {at next end : ℕ} {xs ys : List ℕ}
+both_put : {m k : ℕ} {out mid left : List ℕ} {at next end : ℕ} {xs ys : List ℕ}
     → Put m out at xs mid next → Put k mid next ys left end → Put (m + k) out at (xs ++ ys) left end
-follow {out = out} {at = at} {xs = xs} {ys = ys} p q =
+both_put {out = out} {at = at} {xs = xs} {ys = ys} p q =
     record {
       holds = cc (stored_append out at xs ys);
       after = omega (arith, length-append xs ys);
       near = omega arith;
     }
+
+pub follow : {m k : ℕ} {a b c : Out} {xs ys : List ℕ} → Puts m a b xs → Puts k b c ys → Puts (m + k) a c (xs ++ ys)
+follow p q = record { put = both_put p.put q.put; same = q.same ∙ p.same }
 
 -- two bytes written to a buffer of one, of two and of three
 written_one : written (1 ∷ []) (7 ∷ 8 ∷ []) ≡ 7 ∷ []
@@ -113,38 +118,35 @@ stored_front (x ∷ out) [] = refl
 stored_front (x ∷ out) (b ∷ bytes) = behind_one b out 0 bytes ∙ ap (λ (l : List ℕ). b ∷ l) (stored_front out bytes)
 
 -- no byte put, and more room than was said
-pub put_none : (most : ℕ) (out : List ℕ) (at : ℕ) → Put most out at [] out at
-put_none most out at = record { holds = refl; after = omega arith; near = omega arith }
+pub put_none : (most : ℕ) (o : Out) → Puts most o o []
+put_none most o = record { put = record { holds = refl; after = omega arith; near = omega arith }; same = refl }
 
-pub wider : {most more : ℕ} {out left : List ℕ} {at next : ℕ} {bytes : List ℕ} → most ≤ more → Put most out at bytes left next → Put more out at bytes left next
-wider h p = record { holds = p.holds; after = p.after; near = omega (arith, p.near) }
-
--- one byte put, within the buffer and past its end
-pub put_byte : (out : List ℕ) (at b : ℕ) → Put 1 out at (b ∷ []) (set out at b) (at + 1)
-put_byte out at b = record { holds = refl; after = refl; near = omega arith }
-
-pub put_nothing : (out : List ℕ) (at b : ℕ) → length out ≤ at → Put 1 out at (b ∷ []) out (at + 1)
-put_nothing out at b past = record { holds = sym (set_out out at b past); after = refl; near = omega arith }
+pub wider : {most more : ℕ} {a b : Out} {bytes : List ℕ} → most ≤ more → Puts most a b bytes → Puts more a b bytes
+wider h p = record { put = record { holds = p.put.holds; after = p.put.after; near = omega (arith, p.put.near) }; same = p.same }
 
 -- what is put of a number: its one digit, or all digits but the last and then the last
-pub put_few : {most at next n : ℕ} {out left : List ℕ}
-    → n < 10 → Put most out at ((48 + n) ∷ []) left next → Put 10 out at (digits n) left next
+pub put_few : {most n : ℕ} {a b : Out} → n < 10 → Puts most a b ((48 + n) ∷ []) → Puts 10 a b (digits n)
 put_few {n = n} h p =
     record {
-      holds = rw (digits_few n h) p.holds;
-      after = rw (digits_few n h) p.after;
-      near = omega (arith, p.after);
+      put = record {
+        holds = rw (digits_few n h) p.put.holds;
+        after = rw (digits_few n h) p.put.after;
+        near = omega (arith, p.put.after);
+      };
+      same = p.same;
     }
 
-pub put_many : {most few at last next n : ℕ} {out mid left : List ℕ}
-    → 10 ≤ n → n < 2 ^ 32 → Put most out at (digits (n / 10)) mid last
-    → Put few mid last ((48 + n % 10) ∷ []) left next → Put 10 out at (digits n) left next
+pub put_many : {most few n : ℕ} {a b c : Out}
+    → 10 ≤ n → n < 2 ^ 32 → Puts most a b (digits (n / 10)) → Puts few b c ((48 + n % 10) ∷ []) → Puts 10 a c (digits n)
 put_many {n = n} h fits p q =
     let both = follow p q in
     record {
-      holds = rw (digits_many n h) both.holds;
-      after = rw (digits_many n h) both.after;
-      near = omega (arith, digits-word n fits, rw (← digits_many n h) at both.after);
+      put = record {
+        holds = rw (digits_many n h) both.put.holds;
+        after = rw (digits_many n h) both.put.after;
+        near = omega (arith, digits-word n fits, rw (← digits_many n h) at both.put.after);
+      };
+      same = both.same;
     }
 
 -- the last line of the whole case before its words: "9 21 0"

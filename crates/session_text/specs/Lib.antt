@@ -1,2 +1,3 @@
 -- What the contracts of this crate cite.
 pub mod Text
+pub mod Out

@@ -2,52 +2,65 @@
 
 #![tactic(auto)]
 
-ghost use Rattle.std.specs.Prelude.{◌<◌, [], ◌∷◌};
-ghost use Rattle.session_text.specs.Text.{Put, digits, line, word_line};
+ghost use Rattle.std.specs.Prelude.{◌<◌, ◌≡◌, [], ◌∷◌};
+ghost use Rattle.session_text.specs.Text.{digits, line, word_line};
 
-// Stores a byte, if the buffer reaches so far, and returns the place after it.
-pub fn put_byte(out: &mut [u8], at: usize, b: u8) -> usize
-    requires { at < 4000000000 }
-    ensures { Put 1 out.old at (b ∷ []) out.new result }
-{
-    let next = at + 1;
-    if at < out.len() {
-        out[at] = b;
+// A lent buffer, and the place where the next byte goes. It is counted past the buffer's end too, as C's snprintf does. So nothing bounds
+// the place, and a bound stays a clause: each method puts another number of bytes.
+#[derive(Drop)]
+pub struct Out<'a> {
+    pub buffer: &'a mut [u8],
+    pub at: usize,
+}
+
+impl<'a> Out<'a> {
+    ghost use Rattle.session_text.specs.Out.{Puts};
+
+    // Stores a byte, if the buffer reaches so far.
+    pub fn put_byte(&mut self, b: u8)
+        requires { self.old.at < 4000000000 }
+        ensures { Puts 1 self.old self.new (b ∷ []) }
+    {
+        if self.at < self.buffer.len() {
+            self.buffer[self.at] = b;
+        }
+        self.at += 1;
     }
-    next
-}
 
-// Stores a number in decimal, without leading zeros: first all digits but the last, then the last.
-pub fn put_number(out: &mut [u8], at: usize, n: u32) -> usize
-    requires { at < 2000000000 }
-    ensures { Put 10 out.old at (digits n) out.new result }
-{
-    if n < 10 {
-        return put_byte(out, at, (48 + n) as u8);
+    // Stores a number in decimal, without leading zeros: first all digits but the last, then the last. It stays by hand: it counts on
+    // past the buffer's end, as snprintf does, and there is no heap.
+    pub fn put_number(&mut self, n: u32)
+        requires { self.old.at < 2000000000 }
+        ensures { Puts 10 self.old self.new (digits n) }
+    {
+        if n < 10 {
+            self.put_byte((48 + n) as u8);
+        } else {
+            self.put_number(n / 10);
+            self.put_byte((48 + n % 10) as u8);
+        }
     }
-    let last = put_number(out, at, n / 10);
-    put_byte(out, last, (48 + n % 10) as u8)
-}
 
-// §12.3: stores the line of a record.
-pub fn put_line(out: &mut [u8], at: usize, index: u32, number: u32, value: u32) -> usize
-    requires { at < 1500000000 }
-    ensures { Put 33 out.old at (line index number value) out.new result }
-{
-    let a = put_number(out, at, index);
-    let b = put_byte(out, a, b' ');
-    let c = put_number(out, b, number);
-    let d = put_byte(out, c, b' ');
-    let e = put_number(out, d, value);
-    put_byte(out, e, b'\n')
-}
+    // §12.3: stores the line of a record.
+    pub fn put_line(&mut self, index: u32, number: u32, value: u32)
+        requires { self.old.at < 1500000000 }
+        ensures { Puts 33 self.old self.new (line index number value) }
+    {
+        self.put_number(index);
+        self.put_byte(b' ');
+        self.put_number(number);
+        self.put_byte(b' ');
+        self.put_number(value);
+        self.put_byte(b'\n');
+    }
 
-// §12.6: stores the line of an address.
-pub fn put_word_line(out: &mut [u8], at: usize, address: u32, value: u32, version: u32) -> usize
-    requires { at < 1000000000 }
-    ensures { Put 35 out.old at (word_line address value version) out.new result }
-{
-    let a = put_byte(out, at, b'w');
-    let b = put_byte(out, a, b' ');
-    put_line(out, b, address, value, version)
+    // §12.6: stores the line of an address.
+    pub fn put_word_line(&mut self, address: u32, value: u32, version: u32)
+        requires { self.old.at < 1000000000 }
+        ensures { Puts 35 self.old self.new (word_line address value version) }
+    {
+        self.put_byte(b'w');
+        self.put_byte(b' ');
+        self.put_line(address, value, version);
+    }
 }

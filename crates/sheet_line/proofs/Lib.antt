@@ -1,3 +1,2 @@
--- Laws of a line: what the cases say that the code tells apart, and the bytes of a number put one by one.
-pub mod Cases
+-- Laws of a line: a number and its lowest bytes.
 pub mod Bytes

@@ -1,26 +1,17 @@
-// A line of a comma-separated schedule, field by field (§18.5 to §18.8): its content, the bytes that it stands for, and its number.
+// A line of a comma-separated schedule, field by field (§18.5 to §18.8): its content, the bytes that it stands for, and what refuses it.
 
 #![tactic(auto)]
 
 ghost use Rattle.std.specs.Prelude.{◌≡◌, true, ◌-◌, ◌<◌, ◌≤◌};
-ghost use Rattle.session_text.specs.Text.{Put};
+ghost use Rattle.session_text.specs.Out.{Puts};
 ghost use Rattle.sheet_text.specs.Line as spec;
 
-use session_marks::{Kind, Marked};
-use sheet_text::{Digits, Letters, Line};
-
-// A number from here on is too large for every field.
-const TOO_LARGE: u64 = 4294967296;
+use session_marks::Kind;
+use session_text::Out;
+use sheet_text::{Digits, Letters, Line, TextFault};
 
 // Fields that are counted: more than any line has.
 const MOST_FIELDS: usize = 6;
-
-// A line with a field ended, and the place behind the bytes of the session that were put for the field.
-#[derive(Clone, Copy)]
-pub struct Ended {
-    pub line: Line,
-    pub next: usize,
-}
 
 // A line at its beginning.
 pub fn blank() -> Line
@@ -29,7 +20,7 @@ pub fn blank() -> Line
     Line {
         letters: Letters::NoLetter,
         digits: Digits::NoDigit,
-        kind: Marked::Unknown,
+        kind: None,
         fields: 0,
         wrong: false,
     }
@@ -41,36 +32,28 @@ fn add_letter(letters: Letters, byte: u8) -> Letters
     match letters {
         Letters::NoLetter => Letters::One(byte),
         Letters::One(first) => Letters::Two(first, byte),
-        Letters::Two(_, _) => Letters::More,
-        Letters::More => Letters::More,
-    }
-}
-
-fn is_digit(byte: u8) -> bool
-    ensures { result ≡ spec.is_digit byte }
-{
-    match byte {
-        b'0'..=b'9' => true,
-        _ => false,
+        Letters::Two(_, _) | Letters::More => Letters::More,
     }
 }
 
 // A number with one digit more, given in ASCII, if some field has room for it.
+#[tactic(auto, unfolding(sheet_text::specs::Line::grown))]
 fn grown(number: u32, digit: u8) -> Digits
     requires { spec.is_digit digit ≡ true }
     ensures { result ≡ spec.grown number (digit - 48) }
 {
     let more = 10 * number as u64 + (digit - b'0') as u64;
-    if more < TOO_LARGE {
-        return Digits::Number(more as u32);
+    match u32::try_from(more) {
+        Ok(number) => Digits::Number(number),
+        Err(_) => Digits::Other,
     }
-    Digits::Other
 }
 
+#[tactic(auto, using(sheet_text::proofs::Content::first_digit))]
 fn add_digit(digits: Digits, byte: u8) -> Digits
     ensures { result ≡ spec.add_digit digits byte }
 {
-    if !is_digit(byte) {
+    if !byte.is_ascii_digit() {
         return Digits::Other;
     }
     match digits {
@@ -81,103 +64,77 @@ fn add_digit(digits: Digits, byte: u8) -> Digits
 }
 
 // A line with a byte more in the field that is read. The digits come first, since the compiler makes quicker code of that.
+#[tactic(auto, unfolding(sheet_text::specs::Line::with_byte))]
 pub fn with_byte(line: Line, byte: u8) -> Line
     ensures { result ≡ spec.with_byte line byte }
 {
-    let letters = line.letters;
-    let digits = line.digits;
-    let kind = line.kind;
-    let more_digits = add_digit(digits, byte);
-    let more_letters = add_letter(letters, byte);
+    let digits = add_digit(line.digits, byte);
+    let letters = add_letter(line.letters, byte);
     Line {
-        letters: more_letters,
-        digits: more_digits,
-        kind,
-        fields: line.fields,
-        wrong: line.wrong,
+        letters,
+        digits,
+        ..line
     }
 }
 
 // §18.5: the mark that the first field is.
-fn kind_of(letters: Letters) -> Marked
+fn kind_of(letters: Letters) -> Option<Kind>
     ensures { result ≡ spec.kind_of letters }
 {
-    let Letters::Two(first, second) = letters else {
-        return Marked::Unknown;
-    };
-    let mark = [first, second];
-    session_marks::kind_at(&mark)
+    match letters {
+        Letters::Two(first, second) => session_marks::kind_at(&[first, second]),
+        Letters::NoLetter | Letters::One(_) | Letters::More => None,
+    }
 }
 
 // §18.6: how many numbers a field of so many bytes has room for.
+#[tactic(auto, unfolding(sheet_text::specs::Line::room), using(crate::proofs::Bytes::moved))]
 fn room(width: usize) -> u64
     requires { width ≤ 4 }
     ensures { result ≡ spec.room width }
 {
-    match width {
-        0 => 0,
-        1 => 256,
-        2 => 65536,
-        3 => 16777216,
-        _ => TOO_LARGE,
-    }
+    if width == 0 { 0 } else { 1 << (8 * width) }
 }
 
-// Whether a field has no content.
-fn is_empty(digits: Digits) -> bool
-    ensures { result ≡ spec.fits 0 digits }
-{
-    match digits {
-        Digits::NoDigit => true,
-        Digits::Number(_) => false,
-        Digits::Other => false,
-    }
-}
-
-// §18.6: whether a field is as asked. One that is not used is told first, since most lines have two.
+// §18.6: whether a field is as asked: empty if it is not used, and else a number that it has room for.
 fn fits(width: usize, digits: Digits) -> bool
     requires { width ≤ 4 }
     ensures { result ≡ spec.fits width digits }
 {
-    if width == 0 {
-        return is_empty(digits);
+    match digits {
+        Digits::NoDigit => width == 0,
+        Digits::Number(number) => (number as u64) < room(width),
+        Digits::Other => false,
     }
-    let Digits::Number(number) = digits else {
-        return false;
-    };
-    (number as u64) < room(width)
 }
 
 fn value_of(digits: Digits) -> u32
     ensures { result ≡ spec.value_of digits }
 {
-    let Digits::Number(number) = digits else {
-        return 0;
-    };
-    number
+    match digits {
+        Digits::Number(number) => number,
+        Digits::NoDigit | Digits::Other => 0,
+    }
 }
 
 // The bytes of a number of a line, by the kind that its first field named.
-fn width_at(kind: Marked, number: usize) -> usize
+fn width_at(kind: Option<Kind>, number: usize) -> usize
     ensures { (result ≡ spec.width_at kind number) × (result ≤ 4) }
 {
-    let Marked::Known(known) = kind else {
-        return 0;
-    };
-    session_fields::width(known, number)
+    match kind {
+        Some(kind) => session_fields::width(kind, number),
+        None => 0,
+    }
 }
 
 // A line with its first field ended.
 fn mark_ended(letters: Letters) -> Line
     ensures { result ≡ spec.mark_ended letters }
 {
-    let kind = kind_of(letters);
     Line {
-        letters: Letters::NoLetter,
-        digits: Digits::NoDigit,
-        kind,
+        kind: kind_of(letters),
         fields: 1,
-        wrong: false,
+        ..blank()
     }
 }
 
@@ -198,75 +155,62 @@ pub fn numbers_of(kind: Kind) -> usize
     if session_marks::opens(kind) { 4 } else { 3 }
 }
 
-// §18.8: the number of a line whose fields have ended.
-pub fn verdict(line: Line) -> u32
+// §18.8: what refuses a line whose fields have ended, if anything does.
+pub fn verdict(line: Line) -> Option<TextFault>
     ensures { result ≡ spec.verdict line }
 {
-    let marked = line.kind;
-    let Marked::Known(kind) = marked else {
-        return sheet_text::UNKNOWN_MARK;
+    let Some(kind) = line.kind else {
+        return Some(TextFault::UnknownMark);
     };
     if line.fields != numbers_of(kind) + 1 {
-        return sheet_text::WRONG_COUNT;
+        return Some(TextFault::WrongCount);
     }
     if line.wrong {
-        return sheet_text::WRONG_FIELD;
+        return Some(TextFault::WrongField);
     }
-    0
+    None
 }
 
 // Puts a number in so many bytes, the lowest first.
-fn put_little(out: &mut [u8], at: usize, width: usize, number: u32) -> usize
-    requires { (at < 2000000000) × (width ≤ 4) }
-    ensures { Put 4 out.old at (spec.little width number) out.new result }
+fn put_little(out: &mut Out<'_>, width: usize, number: u32)
+    requires { (out.old.at < 2000000000) × (width ≤ 4) }
+    ensures { Puts 4 out.old out.new (spec.little width number) }
 {
-    let mut next = at;
-    let mut left = number;
-    for _i in 0..width {
-        next = session_text::put_byte(out, next, (left % 256) as u8);
-        left = left / 256;
+    for &byte in &number.to_le_bytes()[..width] {
+        out.put_byte(byte);
     }
-    next
 }
 
 // Puts the letters of a mark, if there are two.
-fn put_letters(out: &mut [u8], at: usize, letters: Letters) -> usize
-    requires { at < 2000000000 }
-    ensures { Put 4 out.old at (spec.letters_of letters) out.new result }
+fn put_letters(out: &mut Out<'_>, letters: Letters)
+    requires { out.old.at < 2000000000 }
+    ensures { Puts 4 out.old out.new (spec.letters_of letters) }
 {
-    let Letters::Two(first, second) = letters else {
-        return at;
-    };
-    let next = session_text::put_byte(out, at, first);
-    session_text::put_byte(out, next, second)
+    if let Letters::Two(first, second) = letters {
+        out.put_byte(first);
+        out.put_byte(second);
+    }
 }
 
 // Ends the field that is read, and puts the bytes of the session that it stands for. One function does both, since both ask for the
 // width of the field.
-pub fn end_field(out: &mut [u8], at: usize, line: Line) -> Ended
-    requires { at < 2000000000 }
-    ensures { (result.line ≡ spec.field_ended line)
-        × Put 4 out.old at (spec.field_bytes line) out.new result.next }
+#[tactic(auto, unfolding(sheet_text::specs::Line::field_ended, sheet_text::specs::Line::field_bytes))]
+pub fn end_field(out: &mut Out<'_>, line: Line) -> Line
+    requires { out.old.at < 2000000000 }
+    ensures { (result ≡ spec.field_ended line)
+        × Puts 4 out.old out.new (spec.field_bytes line) }
 {
-    let letters = line.letters;
-    let digits = line.digits;
-    let kind = line.kind;
     if line.fields == 0 {
-        let next = put_letters(out, at, letters);
-        let ended = mark_ended(letters);
-        return Ended { line: ended, next };
+        put_letters(out, line.letters);
+        return mark_ended(line.letters);
     }
-    let width = width_at(kind, line.fields - 1);
-    let number = value_of(digits);
-    let next = put_little(out, at, width, number);
-    let good = fits(width, digits);
-    let fields = one_more(line.fields);
-    let ended = Line {
+    let width = width_at(line.kind, line.fields - 1);
+    put_little(out, width, value_of(line.digits));
+    Line {
         letters: Letters::NoLetter,
         digits: Digits::NoDigit,
-        kind,
-        fields,
-        wrong: line.wrong || !good,
-    };
-    Ended { line: ended, next }
+        fields: one_more(line.fields),
+        wrong: line.wrong || !fits(width, line.digits),
+        ..line
+    }
 }

@@ -1,5 +1,5 @@
 -- The content of a field, read byte by byte as a mark and as a number, is what the rows say of it at once (§18.5, §18.6).
-use Rattle.std.specs.Prelude.{if◌then◌else◌}
+use Rattle.std.specs.Prelude.{Some, if◌then◌else◌}
 use Prim.Native.Nat.{ℕ, ◌+◌, ◌*◌, ◌-◌, ◌^◌, ◌≤◌, ◌<◌}
 use mathlib.Core.Path.{◌≡◌, refl, sym, ap, ◌∙◌}
 use mathlib.Core.Logic.{◌⊎◌, inl, inr, ◌≢◌}
@@ -13,7 +13,7 @@ use borrow.Author.Tests.{ltb-false, lt-ltb, le-ltb, leb-true, ne_eqb}
 use Rattle.memory.proofs.Tools.{if_cases, and_1, same?}
 use Rattle.session_marks.specs.Marks.{mark, kinds, kind_at}
 use Rattle.session_marks.specs.declared.Kind.{Kind}
-use Rattle.session_marks.specs.declared.Marked.TheVariants.{Known, Unknown}
+use Rattle.std.proofs.lemmas.Option.{none-some}
 use Rattle.session_marks.proofs.Marks.{found}
 use Rattle.sheet_text.specs.Line.{Letters, NoLetter, More, Digits, NoDigit, Number, Other, add_letter, add_digit, is_digit, grown, kind_of, letters_of, value_of, room, fits, little}
 use Rattle.sheet_text.specs.Rows.{kind_of_content, digit, all_digits, decimal_from, decimal, content_fits}
@@ -41,14 +41,13 @@ kind_read (a ∷ b ∷ []) = refl
 kind_read (a ∷ b ∷ d ∷ bs) = rw (stays_more bs, ne_eqb (length (a ∷ b ∷ d ∷ bs)) 2 (λ e. omega arith))
 
 -- the letters of a mark are its bytes
-pub mark-read : (c : List ℕ) (k : Kind) → kind_of_content c ≡ Known k → letters_of (letters_from NoLetter c) ≡ mark k
+pub mark-read : (c : List ℕ) (k : Kind) → kind_of_content c ≡ Some k → letters_of (letters_from NoLetter c) ≡ mark k
 unfolding kind_of_content kind_at
-mark-read [] k e = let z : ◌≡◌ {A = ℕ} 0 1 = cc in absurd (omega arith)
-mark-read (a ∷ []) k e = let z : ◌≡◌ {A = ℕ} 0 1 = cc in absurd (omega arith)
+mark-read [] k e = absurd (none-some k e)
+mark-read (a ∷ []) k e = absurd (none-some k e)
 mark-read (a ∷ b ∷ []) k e = found kinds (a ∷ b ∷ []) k e
 mark-read (a ∷ b ∷ d ∷ bs) k e =
-    let none : Unknown ≡ Known k = rw (ne_eqb (length (a ∷ b ∷ d ∷ bs)) 2 (λ q. omega arith)) at e in
-    let z : ◌≡◌ {A = ℕ} 0 1 = cc in absurd (omega arith)
+    absurd (none-some k (rw (ne_eqb (length (a ∷ b ∷ d ∷ bs)) 2 (λ q. omega arith)) at e))
 
 -- As a number ------------------------------------------------------------------------------------------------------------------------
 

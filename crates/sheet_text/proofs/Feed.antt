@@ -1,9 +1,9 @@
 -- Text read after text: where the reader comes to, and the bytes of the session that it gives on the way.
+use Rattle.std.specs.Prelude.{Some}
 use Prim.Native.Nat.{ℕ}
 use mathlib.Core.Path.{◌≡◌, refl, sym, ap, ◌∙◌}
-use mathlib.Core.Logic.{◌≢◌}
 use mathlib.Core.List.{List, [], ◌∷◌, ◌++◌, append_assoc}
-use borrow.Author.Tests.{ne_eqb}
+use Rattle.sheet_text.specs.Answer.{TextFault}
 use Rattle.sheet_text.specs.Read.{Reader, step, step_bytes, feed, feed_bytes, finish, finish_bytes}
 
 pub feed_append : (r : Reader) (s t : List ℕ) → feed r (s ++ t) ≡ feed (feed r s) t
@@ -53,25 +53,29 @@ ends-after {r} {r'} {s = s} {t = t} {b = b} g h =
     }
 
 -- A text that was refused stays so, and gives nothing more.
-module _ (r : Reader) (refused : r.number ≢ 0) where
+module _ (r : Reader) {f : TextFault} (refused : r.fault ≡ Some f) where
   stays : (b : ℕ) → step r b ≡ r
   unfolding step
-  stays b = rw (ne_eqb r.number 0 refused)
+  stays b = rw refused
+
+  gives_none : (b : ℕ) → step_bytes r b ≡ []
+  unfolding step_bytes
+  gives_none b = rw refused
 
   pub refused_goes : (text : List ℕ) → Goes r text r []
-  unfolding feed feed_bytes step_bytes
+  unfolding feed feed_bytes
   refused_goes [] = goes_nowhere r
   refused_goes (b ∷ bs) =
       let h = refused_goes bs in
-      record { comes = rw (stays b) h.comes; gives = rw (ne_eqb r.number 0 refused, stays b) h.gives }
+      record { comes = rw (stays b) h.comes; gives = rw (gives_none b, stays b) h.gives }
 
   pub refused-finish : finish r ≡ r
   unfolding finish
-  refused-finish = rw (ne_eqb r.number 0 refused)
+  refused-finish = rw refused
 
   pub refused-finish_bytes : finish_bytes r ≡ []
   unfolding finish_bytes
-  refused-finish_bytes = rw (ne_eqb r.number 0 refused)
+  refused-finish_bytes = rw refused
 
   pub refused_stays : (text : List ℕ) → finish (feed r text) ≡ r
   refused_stays text = rw (refused_goes text).comes refused-finish

@@ -1,14 +1,15 @@
 -- The first line that a reader comes to is a row of RFC 4180, or the text is answered 30: by what is left of the line, from its end to
 -- its beginning.
+use Rattle.std.specs.Prelude.{None, Some}
 use Prim.Native.Nat.{ℕ}
 use mathlib.Core.Path.{◌≡◌, refl, ap, ◌∙◌}
 use mathlib.Core.Logic.{◌⊎◌, inl, inr, ⊎_map}
 use mathlib.Core.List.{List, [], ◌∷◌}
 use lib.Dec.{eqb}
-use native.Mathlib.Omega.{arith}
-use borrow.Author.Tests.{eqb-true, eq-eqb}
+use borrow.Author.Tests.{eqb-true}
 use Rattle.memory.proofs.Tools.{if_cases}
 use Rattle.sheet_text.specs.Turn.{Spot, Fresh, Bare, Quoted, Closed, Return, Turn, Content, Beside, FieldEnds, LineEnds, Stray, quote, comma, return, newline, special, leave, bare, turn, ending}
+use Rattle.sheet_text.specs.Answer.{BadQuoting}
 use Rattle.sheet_text.specs.Line.{blank}
 use Rattle.sheet_text.specs.Read.{Reader, reader, act, step, feed, finish}
 use Rattle.sheet_text.specs.Claims.{FirstLine}
@@ -63,27 +64,27 @@ module _ (b : ℕ) (text : List ℕ) where
 
 -- a text and its end, read from there, are answered 30
 abbrev pub Is30 : Reader → List ℕ → Type 0
-Is30 r text = (finish (feed r text)).number ≡ 30
+Is30 r text = (finish (feed r text)).fault ≡ Some BadQuoting
 
 -- a byte, and the end of the text, at a reader that has not refused
-step_acts : (r : Reader) (b : ℕ) → r.number ≡ 0 → step r b ≡ act r (turn r.spot b) b
+step_acts : (r : Reader) (b : ℕ) → r.fault ≡ None → step r b ≡ act r (turn r.spot b) b
 unfolding step
-step_acts r b z = rw (eq-eqb r.number 0 z)
+step_acts r b z = rw z
 
-finish_acts : (r : Reader) → r.number ≡ 0 → finish r ≡ act r (ending r.spot r.line.fields) 0
+finish_acts : (r : Reader) → r.fault ≡ None → finish r ≡ act r (ending r.spot r.line.fields) 0
 unfolding finish
-finish_acts r z = rw (eq-eqb r.number 0 z)
+finish_acts r z = rw z
 
 -- what is known of a text by a reader at any spot
 abbrev Told : List ℕ → Type 0
-Told text = (r : Reader) → r.number ≡ 0 → LeftAt r.spot text ⊎ Is30 r text
+Told text = (r : Reader) → r.fault ≡ None → LeftAt r.spot text ⊎ Is30 r text
 
-by_turn : (text : List ℕ) → Told text → (r : Reader) → r.number ≡ 0 → (t : Turn) (b : ℕ) → LeftBy t text ⊎ Is30 (act r t b) text
+by_turn : (text : List ℕ) → Told text → (r : Reader) → r.fault ≡ None → (t : Turn) (b : ℕ) → LeftBy t text ⊎ Is30 (act r t b) text
 by_turn text told r z (Content s) b = told (act r (Content s) b) z
 by_turn text told r z (Beside s) b = told (act r (Beside s) b) z
 by_turn text told r z FieldEnds b = told (act r FieldEnds b) z
 by_turn text told r z LineEnds b = inl tt
-by_turn text told r z Stray b = inr (ap (λ (x : Reader). x.number) (refused_stays (act r Stray b) (λ q. omega arith) text))
+by_turn text told r z Stray b = inr (ap (λ (x : Reader). x.fault) (refused_stays (act r Stray b) refl text))
 
 -- §18.4: the end of the text
 at_end : (s : Spot) (n : ℕ) → LeftAt s [] ⊎ (ending s n ≡ Stray)
@@ -96,10 +97,10 @@ at_end Return n = inr refl
 told : (text : List ℕ) → Told text
 unfolding feed
 told [] r z =
-    ⊎_map (λ l. l) (λ stray. ap (λ (x : Reader). x.number) (finish_acts r z ∙ ap (λ (t : Turn). act r t 0) stray))
+    ⊎_map (λ l. l) (λ stray. ap (λ (x : Reader). x.fault) (finish_acts r z ∙ ap (λ (t : Turn). act r t 0) stray))
     (at_end r.spot r.line.fields)
 told (b ∷ text) r z =
     rw (step_acts r b z) (⊎_map (at_spot b text r.spot) (λ e. e) (by_turn text (told text) r z (turn r.spot b) b))
 
-pub first_line : (text : List ℕ) (n i : ℕ) → FirstLine text ⊎ Is30 (reader Fresh blank n i 0) text
-first_line text n i = ⊎_map line_of (λ e. e) (told text (reader Fresh blank n i 0) refl)
+pub first_line : (text : List ℕ) (n i : ℕ) → FirstLine text ⊎ Is30 (reader Fresh blank n i None) text
+first_line text n i = ⊎_map line_of (λ e. e) (told text (reader Fresh blank n i None) refl)

@@ -1,24 +1,28 @@
 -- How long the session of a text is: what the reader counts is what it has put out.
-use Rattle.std.specs.Prelude.{if◌then◌else◌}
+use Rattle.std.specs.Prelude.{Option, None, Some, if◌then◌else◌}
 use Prim.Native.Nat.{ℕ, ◌+◌}
 use mathlib.Core.Path.{◌≡◌, refl}
 use mathlib.Core.List.{List, [], ◌∷◌}
-use mathlib.Core.Bool.{Bool, true, false, not}
-use lib.Dec.{ltb, eqb}
+use mathlib.Core.Bool.{Bool, true, false}
+use lib.Dec.{ltb}
 use lib.ListN.{length, length-append}
 use native.Mathlib.Omega.{arith}
 use Rattle.memory.proofs.Tools.{if_cases}
+use Rattle.std.specs.Option.{is_none}
 use Rattle.session_split.specs.Session.{most_bytes}
+use Rattle.sheet_text.specs.Answer.{TextFault}
 use Rattle.sheet_text.specs.Turn.{Turn, Content, Beside, FieldEnds, LineEnds, Stray, turn, ending}
 use Rattle.sheet_text.specs.Line.{Line, verdict, field_ended, field_bytes}
-use Rattle.sheet_text.specs.Read.{Reader, line_ended, act, act_bytes, step, step_bytes, feed, feed_bytes, finish, finish_bytes, begin, read_of, session_of}
+use Rattle.sheet_text.specs.Read.{Reader, ended_by, line_ended, act, act_bytes, step, step_bytes, feed, feed_bytes, finish, finish_bytes, begin, read_of, session_of}
 
 -- the end of a line puts nothing out
 pub length-line_ended : (l : Line) (n i : ℕ) → (line_ended l n i).length ≡ n
 unfolding line_ended
-length-line_ended l n i =
-    if_cases (λ (r : Reader). r.length ≡ n) (not (eqb (verdict l) 0)) _ _ (λ _. refl) (λ _.
-    if_cases (λ (r : Reader). r.length ≡ n) (ltb most_bytes n) _ _ (λ _. refl) (λ _. refl))
+length-line_ended l n i = go (verdict l)
+  where
+    go : (v : Option TextFault) → (ended_by v l n i).length ≡ n
+    go (Some f) = refl
+    go None = if_cases (λ (r : Reader). r.length ≡ n) (ltb most_bytes n) _ _ (λ _. refl) (λ _. refl)
 
 pub length-act : (r : Reader) (t : Turn) (b : ℕ) → (act r t b).length ≡ r.length + length (act_bytes r t)
 length-act r (Content s) b = omega arith
@@ -41,11 +45,11 @@ length_unless r t b good =
 
 pub length-step : (r : Reader) (b : ℕ) → (step r b).length ≡ r.length + length (step_bytes r b)
 unfolding step step_bytes
-length-step r b = length_unless r (turn r.spot b) b (eqb r.number 0)
+length-step r b = length_unless r (turn r.spot b) b (is_none r.fault)
 
 pub length-finish : (r : Reader) → (finish r).length ≡ r.length + length (finish_bytes r)
 unfolding finish finish_bytes
-length-finish r = length_unless r (ending r.spot r.line.fields) 0 (eqb r.number 0)
+length-finish r = length_unless r (ending r.spot r.line.fields) 0 (is_none r.fault)
 
 pub length-feed : (r : Reader) (text : List ℕ) → (feed r text).length ≡ r.length + length (feed_bytes r text)
 unfolding feed feed_bytes

@@ -1,6 +1,6 @@
 -- Bytes, the number that they write with the lowest first, and that number in bytes again (§11.2).
 use Prim.Native.Nat.{ℕ, zero, suc, ◌+◌, ◌*◌, ◌/◌, ◌%◌, ◌^◌, ◌<◌, ◌≤◌}
-use mathlib.Core.Path.{◌≡◌, refl}
+use mathlib.Core.Path.{◌≡◌, refl, ap}
 use mathlib.Core.List.Memᴰ
 use mathlib.Core.List.{List, [], ◌∷◌}
 use lib.ListN.{length, take, drop}
@@ -9,6 +9,11 @@ use Rattle.memory.proofs.Tools.{in_take, in_drop}
 use Rattle.session_fields.specs.Fields.{little_endian}
 use Rattle.sheet_text.specs.Line.{little}
 use Rattle.sheet_text.specs.Claims.{Bytes}
+
+pub length-little : (w n : ℕ) → length (little w n) ≡ w
+unfolding little
+length-little zero n = refl
+length-little (suc w) n = ap suc (length-little w (n / 256))
 
 pub bytes_taken : (n : ℕ) {l : List ℕ} → Bytes l → Bytes (take n l)
 bytes_taken n {l} h b m = h b (in_take n l m)

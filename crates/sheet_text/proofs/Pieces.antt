@@ -1,4 +1,5 @@
 -- The records of a session: each has a whole body, of bytes; and they are all of it where it ended.
+use Rattle.std.specs.Prelude.{None, Ok, Err}
 use Prim.Native.Nat.{ℕ, zero, suc, ◌≤◌}
 use mathlib.Core.Path.{◌≡◌, refl, sym, ◌∙◌}
 use mathlib.Core.List.{List, [], ◌∷◌, append-nil}
@@ -9,8 +10,8 @@ use native.Mathlib.Omega.{arith}
 use borrow.Author.Tests.{ltb-false}
 use Rattle.session_marks.specs.declared.Kind.{Kind}
 use Rattle.session_fields.specs.Fields.{body_length}
-use Rattle.session_split.specs.Session.{Piece, piece, most_bytes, record_length, body, following, onward, split_all, session, encoded}
-use Rattle.session_split.specs.declared.Split.TheVariants.{Refused, End}
+use Rattle.session_split.specs.declared.Fault.{Fault}
+use Rattle.session_split.specs.Session.{Split, Piece, piece, most_bytes, record_length, body, following, onward, split_all, session, encoded}
 use Rattle.session_split.proofs.Cases.{split_cases}
 use Rattle.session_split.proofs.Promises.{split_keeps_the_bytes, splits_to_the_end}
 use Rattle.sheet_text.specs.Claims.{Bytes}
@@ -52,20 +53,20 @@ unfolding session
 session-whole bytes h = all_whole (length bytes) true bytes h
 
 -- A session that ended is its records and no more, and not too long.
-pub ended-whole : (bytes : List ℕ) → (session bytes).ended ≡ End → encoded (session bytes).pieces ≡ bytes
+pub ended-whole : (bytes : List ℕ) → (session bytes).ended ≡ Ok None → encoded (session bytes).pieces ≡ bytes
 ended-whole bytes e = sym (append-nil _) ∙ rw (← (splits_to_the_end bytes).1 e) (split_keeps_the_bytes bytes)
 
-pub ended-fits : (bytes : List ℕ) → (session bytes).ended ≡ End → length bytes ≤ most_bytes
+pub ended-fits : (bytes : List ℕ) → (session bytes).ended ≡ Ok None → length bytes ≤ most_bytes
 unfolding session split_all
 ended-fits bytes = go (length bytes) refl
   where
-    refused : (r : ℕ) → Refused r ≡ End → length bytes ≤ most_bytes
-    refused r e = let z : ◌≡◌ {A = ℕ} 0 1 = cc in omega arith
+    refused : (f : Fault) → ◌≡◌ {A = Split} (Err f) (Ok None) → length bytes ≤ most_bytes
+    refused f e = cc
 
-    go : (n : ℕ) → length bytes ≡ n → (split_all n true bytes).ended ≡ End → length bytes ≤ most_bytes
+    go : (n : ℕ) → length bytes ≡ n → (split_all n true bytes).ended ≡ Ok None → length bytes ≤ most_bytes
     go zero e = λ ended. omega arith
     go (suc n) e =
-        split_cases true bytes (λ s. (onward bytes s (λ k. split_all n false (following k bytes))).ended ≡ End → length bytes ≤ most_bytes)
+        split_cases true bytes (λ s. (onward bytes s (λ k. split_all n false (following k bytes))).ended ≡ Ok None → length bytes ≤ most_bytes)
         refused
         (λ later none. absurd (false≢true (sym later)))
         (λ k is-there ended. ltb-false most_bytes (length bytes) is-there.fits)

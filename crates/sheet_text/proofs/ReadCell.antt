@@ -1,5 +1,5 @@
 -- A field that is read (§18.3): its content goes into the line, in quotes or without, and no byte of the session comes of it yet.
-use Rattle.std.specs.Prelude.{if◌then◌else◌}
+use Rattle.std.specs.Prelude.{None, if◌then◌else◌}
 use Prim.Native.Nat.{ℕ, ◌+◌}
 use mathlib.Core.Path.{◌≡◌, refl, subst}
 use mathlib.Core.Logic.{◌⊎◌, inl, inr, ◌≢◌}
@@ -46,20 +46,20 @@ module _ (b : ℕ) (h : plain b ≡ true) where
 
 -- the byte that is read next, by what it is where it stands
 pub goes_turn : (s : Spot) (l : Line) (n i x : ℕ) (t : Turn) → turn s x ≡ t → {text : List ℕ} {r : Reader} {bytes : List ℕ}
-    → Goes (act (reader s l n i 0) t x) text r bytes → Goes (reader s l n i 0) (x ∷ text) r (act_bytes (reader s l n i 0) t ++ bytes)
+    → Goes (act (reader s l n i None) t x) text r bytes → Goes (reader s l n i None) (x ∷ text) r (act_bytes (reader s l n i None) t ++ bytes)
 unfolding step step_bytes
 goes_turn s l n i x t e {text} {r} {bytes} =
-    subst (λ t. Goes (act (reader s l n i 0) t x) text r bytes → Goes (reader s l n i 0) (x ∷ text) r (act_bytes (reader s l n i 0) t ++ bytes)) e
+    subst (λ t. Goes (act (reader s l n i None) t x) text r bytes → Goes (reader s l n i None) (x ∷ text) r (act_bytes (reader s l n i None) t ++ bytes)) e
     goes_step
 
 module _ (n i : ℕ) where
-  bare_goes : (l : Line) (c : List ℕ) → all_plain c ≡ true → Goes (reader Bare l n i 0) c (reader Bare (filled l c) n i 0) []
+  bare_goes : (l : Line) (c : List ℕ) → all_plain c ≡ true → Goes (reader Bare l n i None) c (reader Bare (filled l c) n i None) []
   bare_goes l [] h = goes_nowhere _
   bare_goes l (b ∷ bs) h =
       goes_turn Bare l n i b (Content Bare) (plain_content b (and_0 (plain b) (all_plain bs) h))
       (bare_goes (with_byte l b) bs (and_1 (plain b) (all_plain bs) h))
 
-  fresh_goes : (l : Line) (c : List ℕ) → all_plain c ≡ true → Goes (reader Fresh l n i 0) c (reader (bare_spot c) (filled l c) n i 0) []
+  fresh_goes : (l : Line) (c : List ℕ) → all_plain c ≡ true → Goes (reader Fresh l n i None) c (reader (bare_spot c) (filled l c) n i None) []
   fresh_goes l [] h = goes_nowhere _
   fresh_goes l (b ∷ bs) h =
       let p = and_0 (plain b) (all_plain bs) h in
@@ -67,28 +67,28 @@ module _ (n i : ℕ) where
       (bare_goes (with_byte l b) bs (and_1 (plain b) (all_plain bs) h))
 
   -- between quotes, up to the last one
-  quoted_goes : (l : Line) (c : List ℕ) → Goes (reader Quoted l n i 0) (doubled c ++ (quote ∷ [])) (reader Closed (filled l c) n i 0) []
+  quoted_goes : (l : Line) (c : List ℕ) → Goes (reader Quoted l n i None) (doubled c ++ (quote ∷ [])) (reader Closed (filled l c) n i None) []
   unfolding doubled
   quoted_goes l [] = goes_turn Quoted l n i quote (Beside Closed) refl (goes_nowhere _)
   quoted_goes l (b ∷ bs) = go (eqb b quote) refl (quoted_goes (with_byte l b) bs)
     where
-      go : (x : Bool) → eqb b quote ≡ x → Goes (reader Quoted (with_byte l b) n i 0) (doubled bs ++ (quote ∷ [])) (reader Closed (filled (with_byte l b) bs) n i 0) []
-          → Goes (reader Quoted l n i 0) ((if x then quote ∷ quote ∷ doubled bs else b ∷ doubled bs) ++ (quote ∷ [])) (reader Closed (filled (with_byte l b) bs) n i 0) []
+      go : (x : Bool) → eqb b quote ≡ x → Goes (reader Quoted (with_byte l b) n i None) (doubled bs ++ (quote ∷ [])) (reader Closed (filled (with_byte l b) bs) n i None) []
+          → Goes (reader Quoted l n i None) ((if x then quote ∷ quote ∷ doubled bs else b ∷ doubled bs) ++ (quote ∷ [])) (reader Closed (filled (with_byte l b) bs) n i None) []
       go true e h =
           goes_turn Quoted l n i quote (Beside Closed) refl
           (goes_turn Closed l n i quote (Content Quoted) refl
           (subst
-          (λ x. Goes (reader Quoted (with_byte l x) n i 0) (doubled bs ++ (quote ∷ [])) (reader Closed (filled (with_byte l b) bs) n i 0) [])
+          (λ x. Goes (reader Quoted (with_byte l x) n i None) (doubled bs ++ (quote ∷ [])) (reader Closed (filled (with_byte l b) bs) n i None) [])
           (eqb-true b quote e) h))
       go false e h = goes_turn Quoted l n i b (Content Quoted) (rw e) h
 
-  pub cell_goes : (l : Line) (c : Cell) → cell_ok c ≡ true → Goes (reader Fresh l n i 0) (cell_text c) (reader (behind c) (filled l c.content) n i 0) []
+  pub cell_goes : (l : Line) (c : Cell) → cell_ok c ≡ true → Goes (reader Fresh l n i None) (cell_text c) (reader (behind c) (filled l c.content) n i None) []
   unfolding cell_text
   cell_goes l c = go c.quoted
     where
       go : (q : Bool) → (q || all_plain c.content) ≡ true
-          → Goes (reader Fresh l n i 0) (if q then quote ∷ (doubled c.content ++ (quote ∷ [])) else c.content)
-          (reader (if q then Closed else bare_spot c.content) (filled l c.content) n i 0) []
+          → Goes (reader Fresh l n i None) (if q then quote ∷ (doubled c.content ++ (quote ∷ [])) else c.content)
+          (reader (if q then Closed else bare_spot c.content) (filled l c.content) n i None) []
       go true h = goes_turn Fresh l n i quote (Beside Quoted) refl (quoted_goes l c.content)
       go false h = fresh_goes l c.content h
 
@@ -130,10 +130,10 @@ module _ (l : Line) (n i : ℕ) (c : Cell) (ok : cell_ok c ≡ true) where
   abbrev full : Line
   full = filled l c.content
 
-  pub comma_goes : Goes (reader Fresh l n i 0) (cell_text c ++ (comma ∷ [])) (reader Fresh (field_ended full) (n + length (field_bytes full)) i 0) (field_bytes full)
+  pub comma_goes : Goes (reader Fresh l n i None) (cell_text c ++ (comma ∷ [])) (reader Fresh (field_ended full) (n + length (field_bytes full)) i None) (field_bytes full)
   comma_goes = rw append-nil at (goes_on (cell_goes n i l c ok) (goes_turn (behind c) full n i comma FieldEnds (comma-ends c) (goes_nowhere _)))
 
-  pub line_goes : Goes (reader Fresh l n i 0) (cell_text c ++ (return ∷ newline ∷ [])) (line_ended (field_ended full) (n + length (field_bytes full)) i) (field_bytes full)
+  pub line_goes : Goes (reader Fresh l n i None) (cell_text c ++ (return ∷ newline ∷ [])) (line_ended (field_ended full) (n + length (field_bytes full)) i) (field_bytes full)
   line_goes =
       rw append-nil at
       (goes_on (cell_goes n i l c ok)
@@ -141,7 +141,7 @@ module _ (l : Line) (n i : ℕ) (c : Cell) (ok : cell_ok c ≡ true) where
 
   -- and with the text, if anything of the line is there: a field that has ended, or something of this one
   pub end_goes : (l.fields ≢ 0) ⊎ (cell_text c ≢ [])
-      → Ends (reader Fresh l n i 0) (cell_text c) (line_ended (field_ended full) (n + length (field_bytes full)) i) (field_bytes full)
+      → Ends (reader Fresh l n i None) (cell_text c) (line_ended (field_ended full) (n + length (field_bytes full)) i) (field_bytes full)
   unfolding finish finish_bytes
   end_goes some = ends_so (cell_goes n i l c ok) (rw (line-ends c full.fields (also some))) (rw (line-ends c full.fields (also some)))
     where

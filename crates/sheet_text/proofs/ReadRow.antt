@@ -1,4 +1,5 @@
 -- A row that is read: its fields go into the line one by one, and CR LF or the end of the text ends it (§18.3, §18.4).
+use Rattle.std.specs.Prelude.{None}
 use Prim.Native.Nat.{ℕ, ◌+◌}
 use mathlib.Core.Path.{◌≡◌}
 use mathlib.Core.Logic.{◌⊎◌, inl, ◌≢◌}
@@ -46,7 +47,7 @@ grouped n a b = omega (arith, length-append a b)
 
 -- a row with its CR LF
 pub cells_go : (l : Line) (n i : ℕ) (c : Cell) (cs : List Cell) → cell_ok c ≡ true → cells_ok cs ≡ true
-    → Goes (reader Fresh l n i 0) (cell_text c ++ (others_text cs ++ (return ∷ newline ∷ []))) (after l n i (c ∷ cs)) (cells_bytes l (c ∷ cs))
+    → Goes (reader Fresh l n i None) (cell_text c ++ (others_text cs ++ (return ∷ newline ∷ []))) (after l n i (c ∷ cs)) (cells_bytes l (c ∷ cs))
 unfolding others_text
 cells_go l n i c [] p q = rw append-nil (line_goes l n i c p)
 cells_go l n i c (d ∷ cs) p q =
@@ -62,7 +63,7 @@ cells_go l n i c (d ∷ cs) p q =
 -- a row that the text ends with
 pub cells_end : (l : Line) (n i : ℕ) (c : Cell) (cs : List Cell) → cell_ok c ≡ true → cells_ok cs ≡ true
     → (l.fields ≢ 0) ⊎ (cell_text c ++ others_text cs ≢ [])
-    → Ends (reader Fresh l n i 0) (cell_text c ++ others_text cs) (after l n i (c ∷ cs)) (cells_bytes l (c ∷ cs))
+    → Ends (reader Fresh l n i None) (cell_text c ++ others_text cs) (after l n i (c ∷ cs)) (cells_bytes l (c ∷ cs))
 unfolding others_text
 cells_end l n i c [] p q some = rw (append-nil (cell_text c), append-nil) (end_goes l n i c p (rw append-nil at some))
 cells_end l n i c (d ∷ cs) p q some =

@@ -1,28 +1,32 @@
 -- The claim `LinesAreRecords`, kept: good rows stand for whole records, and a session of whole records is split into them.
-use Rattle.std.specs.Prelude.{if◌then◌else◌}
-use Prim.Native.Nat.{ℕ, zero, suc, ◌+◌, ◌/◌, ◌≤◌}
+use Rattle.std.specs.Prelude.{Option, None, Some, Ok, Err, if◌then◌else◌}
+use Rattle.std.specs.List.{sum}
+use Rattle.std.proofs.lemmas.List.Sums.{sum_by-cons}
+use Prim.Native.Nat.{ℕ, zero, suc, ◌+◌, ◌≤◌}
 use mathlib.Core.Path.{◌≡◌, refl, sym, ap, ◌∙◌}
 use mathlib.Core.List.{List, [], ◌∷◌, ◌++◌, append_assoc, append-nil}
 use mathlib.Core.Bool.{Bool, true, false, not}
 use lib.Dec.{ltb, eqb}
 use lib.ListN.{length, take, length-append}
 use native.Mathlib.Omega.{arith}
-use borrow.Author.Tests.{ltb-false, eqb-true, eqb-false, not-true, not-false, le-ltb}
+use borrow.Author.Tests.{ltb-false, eqb-true, not-false, le-ltb}
 use Rattle.memory.proofs.Tools.{if_cases}
 use Rattle.session_marks.specs.Marks.{mark}
 use Rattle.session_marks.specs.declared.Kind.{Kind}
-use Rattle.session_marks.specs.declared.Marked.{Marked}
-use Rattle.session_marks.specs.declared.Marked.TheVariants.{Known, Unknown}
-use Rattle.session_fields.specs.Fields.{total, widths, body_length}
-use Rattle.session_fields.proofs.Table.{every}
+use Rattle.session_fields.specs.Fields.{widths, body_length}
+use Rattle.session_split.specs.declared.Fault.TheVariants.{CutShort, Misplaced}
 use Rattle.session_split.specs.Session.{Piece, Session, most_bytes, misplaced, too_long, split, split_all, session, encoded}
-use Rattle.session_split.specs.declared.Split.TheVariants.{Record, Refused, End}
 use Rattle.session_split.proofs.Cases.{refused-apart, end_apart}
 use Rattle.session_split.proofs.Rest.{nothing-split}
 use Rattle.session_split.proofs.Whole as whole
+use Rattle.std.specs.Option.{option_or}
+use Rattle.std.proofs.lemmas.Option.{none-some}
+use Rattle.sheet_text.specs.Answer.{TextFault, WrongCount, WrongField, TooLong}
 use Rattle.sheet_text.specs.Line.{little}
-use Rattle.sheet_text.specs.Rows.{Cell, Row, kind_of_content, decimal, contents_fit, asked, row_number_of, row_number, body_of, piece_as, pieces_of, rows_number}
+use Rattle.sheet_text.specs.Rows.{Cell, Row, kind_of_content, decimal, contents_fit, asked, row_fault_of, row_fault, body_of, piece_as, pieces_of, rows_fault}
 use Rattle.sheet_text.specs.Claims.{as_far, end_of, LinesAreRecords}
+use Rattle.sheet_text.proofs.Asked.{all_asked}
+use Rattle.sheet_text.proofs.Little.{length-little}
 
 -- each record has its whole body
 abbrev pub Whole : List Piece → Type 0
@@ -41,30 +45,21 @@ encoded_append (p ∷ ps) qs =
 
 -- The records of good rows ---------------------------------------------------------------------------------------------------------
 
-pub little-length : (w n : ℕ) → length (little w n) ≡ w
-unfolding little
-little-length zero n = refl
-little-length (suc w) n = ap suc (little-length w (n / 256))
-
-pub body-length : (ws : List ℕ) (cs : List Cell) → length (body_of ws cs) ≡ total (take (length cs) ws)
+pub body-length : (ws : List ℕ) (cs : List Cell) → length (body_of ws cs) ≡ sum (take (length cs) ws)
 unfolding body_of
 body-length ws [] = refl
 body-length [] (c ∷ cs) = refl
 body-length (w ∷ ws) (c ∷ cs) =
-    omega (arith, length-append (little w (decimal c.content)) (body_of ws cs), little-length w (decimal c.content), body-length ws cs)
+    omega (arith, length-append (little w (decimal c.content)) (body_of ws cs), length-little w (decimal c.content), body-length ws cs, sum_by-cons (λ n. n) w (take (length cs) ws))
 
--- what a row asks for is the whole body
-all_asked : (k : Kind) → total (take (asked k) (widths k)) ≡ body_length k
-all_asked k = eqb-true (total (take (asked k) (widths k))) (body_length k) (every (λ j. eqb (total (take (asked j) (widths j))) (body_length j)) refl k)
-
-row-whole : (m : Marked) (cs : List Cell) → row_number_of m cs ≡ 0 → Whole (piece_as m cs)
-row-whole Unknown cs e = tt
-row-whole (Known k) cs e =
-    if_cases (λ x. x ≡ 0 → Whole (piece_as (Known k) cs)) (not (eqb (length cs) (asked k))) 31 (if not (contents_fit (widths k) cs) then 32 else 0)
-    (λ many z. absurd (omega arith))
+row-whole : (m : Option Kind) (cs : List Cell) → row_fault_of m cs ≡ None → Whole (piece_as m cs)
+row-whole None cs e = tt
+row-whole (Some k) cs e =
+    if_cases (λ x. x ≡ None → Whole (piece_as (Some k) cs)) (not (eqb (length cs) (asked k))) (Some WrongCount) (if not (contents_fit (widths k) cs) then Some WrongField else None)
+    (λ many z. absurd (none-some WrongCount (sym z)))
     (λ right z.
     let n = eqb-true (length cs) (asked k) (not-false (eqb (length cs) (asked k)) right) in
-    (body-length (widths k) cs ∙ ap (λ (i : ℕ). total (take i (widths k))) n ∙ all_asked k, tt))
+    (body-length (widths k) cs ∙ ap (λ (i : ℕ). sum (take i (widths k))) n ∙ all_asked k, tt))
     e
 
 -- rows after so many bytes of a session: their records are whole, and the session is not too long
@@ -72,22 +67,15 @@ pub record Good (n : ℕ) (rows : List Row) : Type 0 where
   pub whole : Whole (pieces_of rows)
   pub fits : n + length (encoded (pieces_of rows)) ≤ most_bytes
 
-pub good : (rows : List Row) (n : ℕ) → n ≤ most_bytes → rows_number n rows ≡ 0 → Good n rows
-unfolding rows_number row_number pieces_of
+pub good : (rows : List Row) (n : ℕ) → n ≤ most_bytes → rows_fault n rows ≡ None → Good n rows
+unfolding rows_fault row_fault pieces_of
 good [] n h e = record { whole = tt; fits = omega arith }
-good (r ∷ rs) n h e =
-    if_cases (λ x. x ≡ 0 → Good n (r ∷ rs)) (not (eqb (row_number r) 0)) (row_number r) (if ltb most_bytes (n + size) then 34 else rows_number (n + size) rs)
-    (λ wrong z. absurd (eqb-false (row_number r) 0 (not-true (eqb (row_number r) 0) wrong) z))
-    (λ right.
-    if_cases (λ x. x ≡ 0 → Good n (r ∷ rs)) (ltb most_bytes (n + size)) 34 (rows_number (n + size) rs)
-    (λ long z. absurd (omega arith))
-    (λ short z. one_more (eqb-true (row_number r) 0 (not-false (eqb (row_number r) 0) right)) (good rs (n + size) (ltb-false most_bytes (n + size) short) z)))
-    e
+good (r ∷ rs) n h e = go (row_fault r) refl (good rs (n + size)) e
   where
     size : ℕ
     size = length (encoded (pieces_of (r ∷ [])))
 
-    one_more : row_number r ≡ 0 → Good (n + size) rs → Good n (r ∷ rs)
+    one_more : row_fault r ≡ None → Good (n + size) rs → Good n (r ∷ rs)
     one_more fine g =
         let its = piece_as (kind_of_content r.first.content) r.others in
         record {
@@ -102,6 +90,14 @@ good (r ∷ rs) n h e =
               );
         }
 
+    go : (v : Option TextFault) → row_fault r ≡ v → (n + size ≤ most_bytes → rows_fault (n + size) rs ≡ None → Good (n + size) rs)
+        → option_or v (if ltb most_bytes (n + size) then Some TooLong else rows_fault (n + size) rs) ≡ None → Good n (r ∷ rs)
+    go (Some f) is later = λ z. absurd (none-some f (sym z))
+    go None fine later =
+        if_cases (λ x. x ≡ None → Good n (r ∷ rs)) (ltb most_bytes (n + size)) (Some TooLong) (rows_fault (n + size) rs)
+        (λ long z. absurd (none-some TooLong (sym z)))
+        (λ short z. one_more fine (later (ltb-false most_bytes (n + size) short) z))
+
 -- A session of whole records -------------------------------------------------------------------------------------------------------
 
 -- the records as far as they are split off, and the end
@@ -110,8 +106,8 @@ Splits first ps s = (s.pieces ≡ as_far first ps) × (s.ended ≡ end_of first 
 
 none_left : (n : ℕ) (first : Bool) → Splits first [] (split_all n first [])
 unfolding split
-none_left n true = rw (nothing-split n true [] (Refused 11) refl (refused-apart 11)) (refl, refl)
-none_left n false = rw (nothing-split n false [] End refl end_apart) (refl, refl)
+none_left n true = rw (nothing-split n true [] (Err CutShort) refl (refused-apart CutShort)) (refl, refl)
+none_left n false = rw (nothing-split n false [] (Ok None) refl end_apart) (refl, refl)
 
 all_split : (ps : List Piece) (n : ℕ) (first : Bool) → Whole ps → too_long first (length (encoded ps)) ≡ false → length (encoded ps) ≤ n
     → Splits first ps (split_all n first (encoded ps))
@@ -124,11 +120,11 @@ all_split (p ∷ ps) (suc n) first w fits h =
     k : Kind
     k = p.kind
 
-    splits : split first (encoded (p ∷ ps)) ≡ (if misplaced first k then Refused 12 else Record k)
+    splits : split first (encoded (p ∷ ps)) ≡ (if misplaced first k then Err Misplaced else Ok (Some k))
     splits = whole.splits_off k p.body (encoded ps) w.0 first fits
 
     go : (m : Bool) → misplaced first k ≡ m → Splits false ps (split_all n false (encoded ps)) → Splits first (p ∷ ps) (split_all (suc n) first (encoded (p ∷ ps)))
-    go true m rest = rw (nothing-split (suc n) first (encoded (p ∷ ps)) (Refused 12) (rw m at splits) (refused-apart 12), m) (refl, refl)
+    go true m rest = rw (nothing-split (suc n) first (encoded (p ∷ ps)) (Err Misplaced) (rw m at splits) (refused-apart Misplaced), m) (refl, refl)
     go false m rest =
         rw (splits, m, whole.its_body k p.body (encoded ps) w.0, whole.its_rest k p.body (encoded ps) w.0)
         (ap (λ (l : List Piece). p ∷ l) rest.0, rest.1)

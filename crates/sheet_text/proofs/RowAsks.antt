@@ -1,30 +1,31 @@
--- What a row comes to: the reader's number for it is the row's own (§18.8), and the bytes of a good row are its record's.
-use Rattle.std.specs.Prelude.{if◌then◌else◌}
+-- What a row comes to: the reader refuses it for what the row's own definition says (§18.8), and the bytes of a good row are its record's.
+use Rattle.std.specs.Prelude.{Option, None, Some, if◌then◌else◌}
 use Prim.Native.Nat.{ℕ, suc, ◌+◌, ◌-◌, ◌≤◌, ◌<◌}
 use mathlib.Core.Path.{◌≡◌, refl, sym, ap, ◌∙◌}
 use mathlib.Core.List.{List, [], ◌∷◌, ◌++◌, append-nil}
 use mathlib.Core.Bool.{Bool, true, false, not, ◌&&◌, ◌||◌, or-false}
-use lib.Dec.{ltb, leb, eqb, leb-suc-suc, eqb-suc-suc}
+use lib.Dec.{ltb, eqb, leb-suc-suc, eqb-suc-suc}
 use lib.ListN.{length, drop}
 use lib.Seq.{drop-cons}
 use native.Mathlib.Nat.{add-zero, zero-add}
 use native.Mathlib.Omega.{arith}
-use borrow.Author.Tests.{leb-true, eqb-true, ne_eqb, lt-ltb, ltb-false}
+use borrow.Author.Tests.{eqb-true, ne_eqb, lt-ltb, ltb-false}
 use Rattle.memory.proofs.Tools.{and_0, and_1}
 use Rattle.session_marks.specs.declared.Kind.{Kind}
-use Rattle.session_marks.specs.declared.Marked.{Marked}
-use Rattle.session_marks.specs.declared.Marked.TheVariants.{Known, Unknown}
 use Rattle.session_fields.specs.Fields.{widths, width}
-use Rattle.session_fields.proofs.Table.{every, at_most_four}
+use Rattle.session_fields.proofs.Table.{at_most_four}
 use Rattle.session_split.specs.Session.{encoded}
-use Rattle.sheet_text.specs.Line.{NoLetter, NoDigit, Line, blank, with_byte, field_bytes, field_ended, one_more, width_at, fits, little, value_of, letters_of, numbers_of, verdict}
-use Rattle.sheet_text.specs.Rows.{Cell, Row, kind_of_content, content_fits, contents_fit, asked, row_number_of, row_number, decimal, body_of, pieces_of}
+use Rattle.std.proofs.lemmas.Option.{none-some}
+use Rattle.sheet_text.specs.Answer.{TextFault, WrongCount, WrongField, UnknownMark}
+use Rattle.sheet_text.specs.Line.{NoLetter, NoDigit, Line, blank, with_byte, field_bytes, field_ended, one_more, width_at, fits, little, value_of, letters_of, verdict}
+use Rattle.sheet_text.specs.Rows.{Cell, Row, kind_of_content, content_fits, contents_fit, asked, row_fault_of, row_fault, decimal, body_of, pieces_of}
+use Rattle.sheet_text.proofs.Asked.{four_widths, as_asked, four_asked}
 use Rattle.sheet_text.proofs.Content.{letters_from, digits_from, kind_read, mark-read, fits_read, bytes_read}
 use Rattle.sheet_text.proofs.ReadCell.{filled}
 use Rattle.sheet_text.proofs.ReadRow.{cells_line, cells_bytes}
 
 -- between two fields of a line
-abbrev pub between : Marked → ℕ → Bool → Line
+abbrev pub between : Option Kind → ℕ → Bool → Line
 between m n wrong = record { letters = NoLetter; digits = NoDigit; kind = m; fields = n; wrong = wrong }
 
 filled_is : (c : List ℕ) (l : Line)
@@ -55,7 +56,7 @@ more_is j = rw (leb-suc-suc (suc j) 5) (go (ltb j 5))
     go true = omega arith
     go false = refl
 
-module _ (m : Marked) (j : ℕ) (w : Bool) (c : List ℕ) where
+module _ (m : Option Kind) (j : ℕ) (w : Bool) (c : List ℕ) where
   number-ended : field_ended (filled (between m (suc j) w) c) ≡ between m (suc (more j)) (w || not (fits (width_at m j) (digits_from NoDigit c)))
   unfolding field_ended
   number-ended = rw (filled_is c (between m (suc j) w), ne_eqb (suc j) 0 (λ e. omega arith), one_less j, more_is j)
@@ -64,7 +65,7 @@ module _ (m : Marked) (j : ℕ) (w : Bool) (c : List ℕ) where
   unfolding field_bytes
   number_bytes = rw (filled_is c (between m (suc j) w), ne_eqb (suc j) 0 (λ e. omega arith), one_less j)
 
-module _ (m : Marked) where
+module _ (m : Option Kind) where
   kind_stays : (cs : List Cell) (j : ℕ) (w : Bool) → (cells_line (between m (suc j) w) cs).kind ≡ m
   kind_stays [] j w = refl
   kind_stays (c ∷ cs) j w = ap (λ l. (cells_line l cs).kind) (number-ended m j w c.content) ∙ kind_stays cs (more j) _
@@ -86,26 +87,17 @@ de_morgan true a b = refl
 de_morgan false true b = refl
 de_morgan false false b = refl
 
-four_widths : (k : Kind) → length (widths k) ≡ 4
-four_widths k = eqb-true (length (widths k)) 4 (every (λ j. eqb (length (widths j)) 4) refl k)
-
-as_asked : (k : Kind) → numbers_of k ≡ asked k
-as_asked k = eqb-true (numbers_of k) (asked k) (every (λ j. eqb (numbers_of j) (asked j)) refl k)
-
-four_asked : (k : Kind) → asked k ≤ 4
-four_asked k = leb-true (asked k) 4 (every (λ j. leb (asked j) 4) refl k)
-
 -- The numbers of a row that has as many as its mark asks for, from one of them on.
 module _ (k : Kind) where
   widths-from : (j : ℕ) → j < 4 → drop j (widths k) ≡ width k j ∷ drop (suc j) (widths k)
   widths-from j h = drop-cons (widths k) j 0 (omega (arith, four_widths k))
 
   next-ended : (j : ℕ) (w : Bool) (c : List ℕ) → j < 4
-      → field_ended (filled (between (Known k) (suc j) w) c) ≡ between (Known k) (suc (suc j)) (w || not (content_fits (width k j) c))
-  next-ended j w c h = number-ended (Known k) j w c ∙ rw (lt-ltb j 5 (omega arith), fits_read (width k j) c (at_most_four k j))
+      → field_ended (filled (between (Some k) (suc j) w) c) ≡ between (Some k) (suc (suc j)) (w || not (content_fits (width k j) c))
+  next-ended j w c h = number-ended (Some k) j w c ∙ rw (lt-ltb j 5 (omega arith), fits_read (width k j) c (at_most_four k j))
 
   wrong_read : (cs : List Cell) (j : ℕ) (w : Bool) → j + length cs ≤ 4
-      → (cells_line (between (Known k) (suc j) w) cs).wrong ≡ (w || not (contents_fit (drop j (widths k)) cs))
+      → (cells_line (between (Some k) (suc j) w) cs).wrong ≡ (w || not (contents_fit (drop j (widths k)) cs))
   wrong_read [] j w h = sym (or-false w)
   wrong_read (c ∷ cs) j w h =
       ap (λ l. (cells_line l cs).wrong) (next-ended j w c.content (omega arith))
@@ -114,7 +106,7 @@ module _ (k : Kind) where
       ∙ de_morgan w (content_fits (width k j) c.content) (contents_fit (drop (suc j) (widths k)) cs))
 
   body-read : (cs : List Cell) (j : ℕ) (w : Bool) → j + length cs ≤ 4 → contents_fit (drop j (widths k)) cs ≡ true
-      → cells_bytes (between (Known k) (suc j) w) cs ≡ body_of (drop j (widths k)) cs
+      → cells_bytes (between (Some k) (suc j) w) cs ≡ body_of (drop j (widths k)) cs
   unfolding body_of
   body-read [] j w h e = refl
   body-read (c ∷ cs) j w h e =
@@ -122,44 +114,44 @@ module _ (k : Kind) where
       let fit : (content_fits (width k j) c.content && contents_fit (drop (suc j) (widths k)) cs) ≡ true = rw (widths-from j here) at e in
       let one = and_0 (content_fits (width k j) c.content) _ fit in
       let rest = and_1 (content_fits (width k j) c.content) (contents_fit (drop (suc j) (widths k)) cs) fit in
-      rw (next-ended j w c.content here, number_bytes (Known k) j w c.content, bytes_read (width k j) c.content (at_most_four k j) one, widths-from j here)
+      rw (next-ended j w c.content here, number_bytes (Some k) j w c.content, bytes_read (width k j) c.content (at_most_four k j) one, widths-from j here)
       (ap (λ l. little (width k j) (decimal c.content) ++ l) (body-read cs (suc j) _ (omega arith) rest))
 
 -- The whole row ------------------------------------------------------------------------------------------------------------------------
 
--- the number of a row with a mark, by whether it has as many numbers as are asked, and whether one of them is wrong
-abbrev of_marked : Bool → Bool → ℕ
-of_marked enough wrong = if not enough then 31 else if wrong then 32 else 0
+-- what refuses a row with a mark, by whether it has as many numbers as are asked, and whether one of them is wrong
+abbrev of_marked : Bool → Bool → Option TextFault
+of_marked enough wrong = if not enough then Some WrongCount else if wrong then Some WrongField else None
 
-number_of : (m : Marked) (cs : List Cell) → verdict (cells_line (between m 1 false) cs) ≡ row_number_of m cs
-number_of Unknown cs = rw (kind_stays Unknown cs 0 false)
-number_of (Known k) cs =
-    rw (kind_stays (Known k) cs 0 false, as_asked k, counted (Known k) (asked k) (four_asked k) cs 0 false, zero-add) (go (eqb (length cs) (asked k)) refl)
+fault_of : (m : Option Kind) (cs : List Cell) → verdict (cells_line (between m 1 false) cs) ≡ row_fault_of m cs
+fault_of None cs = rw (kind_stays None cs 0 false)
+fault_of (Some k) cs =
+    rw (kind_stays (Some k) cs 0 false, as_asked k, counted (Some k) (asked k) (four_asked k) cs 0 false, zero-add) (go (eqb (length cs) (asked k)) refl)
   where
     go : (b : Bool) → eqb (length cs) (asked k) ≡ b
-        → of_marked b (cells_line (between (Known k) 1 false) cs).wrong ≡ of_marked b (not (contents_fit (widths k) cs))
+        → of_marked b (cells_line (between (Some k) 1 false) cs).wrong ≡ of_marked b (not (contents_fit (widths k) cs))
     go true e =
         let as_many : length cs ≡ asked k = eqb-true (length cs) (asked k) e in
         ap (of_marked true) (wrong_read k cs 0 false (omega (arith, four_asked k)))
     go false e = refl
 
--- the reader's number for a row
-pub number_read : (r : Row) → verdict (cells_line blank (r.first ∷ r.others)) ≡ row_number r
-unfolding row_number
-number_read r = ap (λ l. verdict (cells_line l r.others)) (mark-ended r.first.content) ∙ number_of (kind_of_content r.first.content) r.others
+-- what refuses the row, by the reader
+pub fault_read : (r : Row) → verdict (cells_line blank (r.first ∷ r.others)) ≡ row_fault r
+unfolding row_fault
+fault_read r = ap (λ l. verdict (cells_line l r.others)) (mark-ended r.first.content) ∙ fault_of (kind_of_content r.first.content) r.others
 
 -- a good row has all that is asked
 record Good (k : Kind) (cs : List Cell) : Type 0 where
   count : length cs ≡ asked k
   fit : contents_fit (widths k) cs ≡ true
 
-good : (k : Kind) (cs : List Cell) → row_number_of (Known k) cs ≡ 0 → Good k cs
+good : (k : Kind) (cs : List Cell) → row_fault_of (Some k) cs ≡ None → Good k cs
 good k cs = go (eqb (length cs) (asked k)) refl (contents_fit (widths k) cs) refl
   where
     go : (a : Bool) → eqb (length cs) (asked k) ≡ a → (b : Bool) → contents_fit (widths k) cs ≡ b
-        → of_marked a (not b) ≡ 0 → Good k cs
-    go false p b q e = absurd (omega arith)
-    go true p false q e = absurd (omega arith)
+        → of_marked a (not b) ≡ None → Good k cs
+    go false p b q e = absurd (none-some WrongCount (sym e))
+    go true p false q e = absurd (none-some WrongField (sym e))
     go true p true q e = record { count = eqb-true (length cs) (asked k) p; fit = q }
 
 -- the bytes of a good row are those of its one record
@@ -167,13 +159,13 @@ pub record OneRecord (r : Row) : Type 0 where
   pub bytes : cells_bytes blank (r.first ∷ r.others) ≡ encoded (pieces_of (r ∷ []))
   pub one : length (pieces_of (r ∷ [])) ≡ 1
 
-pub record_read : (r : Row) → row_number r ≡ 0 → OneRecord r
-unfolding row_number pieces_of
+pub record_read : (r : Row) → row_fault r ≡ None → OneRecord r
+unfolding row_fault pieces_of
 record_read r = go (kind_of_content r.first.content) refl
   where
-    go : (m : Marked) → kind_of_content r.first.content ≡ m → row_number_of m r.others ≡ 0 → OneRecord r
-    go Unknown e q = absurd (omega arith)
-    go (Known k) e q =
+    go : (m : Option Kind) → kind_of_content r.first.content ≡ m → row_fault_of m r.others ≡ None → OneRecord r
+    go None e q = absurd (none-some UnknownMark (sym q))
+    go (Some k) e q =
         let g = good k r.others q in
         record {
           bytes =

@@ -1,28 +1,27 @@
 -- What is promised of writing (specs/Claims.antt), proved: the text is rows, it is read back, and it is short.
+use Rattle.std.specs.Prelude.{None, Some}
 use Prim.Native.Nat.{ℕ, ◌+◌, ◌*◌, ◌≤◌}
 use mathlib.Core.Path.{◌≡◌, refl, ap, ◌∙◌}
 use mathlib.Core.List.{List, [], ◌∷◌, ◌++◌, map, append_assoc, append-nil}
 use mathlib.Core.Bool.{true}
-use lib.Dec.{leb}
 use lib.ListN.{length, take, length-append}
 use lib.Seq.{take-length}
 use native.Mathlib.Omega.{arith}
-use borrow.Author.Tests.{le-ltb, leb-true, eq-eqb}
+use borrow.Author.Tests.{le-ltb, eq-eqb}
 use Rattle.memory.proofs.Tools.{and_make}
-use Rattle.session_marks.specs.Marks.{mark, begins, kind_among, kind_at}
+use Rattle.session_marks.specs.Marks.{mark}
 use Rattle.session_marks.specs.declared.Kind.{Kind}
-use Rattle.session_marks.specs.declared.Kind.TheVariants.{Open, Start, Commit, Abort, Wait, Step, Read, Write}
-use Rattle.session_marks.specs.declared.Marked.TheVariants.{Known}
-use Rattle.session_fields.specs.Fields.{total, widths, body_length}
+use Rattle.session_marks.proofs.Marks.{known, two_long}
+use Rattle.session_fields.specs.Fields.{widths}
 use Rattle.session_fields.proofs.Table.{every}
 use Rattle.session_split.specs.Session.{Piece, most_bytes, session, encoded}
 use Rattle.session_split.proofs.Promises.{split_keeps_the_bytes}
 use Rattle.sheet_text.specs.Turn.{return, newline}
-use Rattle.sheet_text.specs.Line.{numbers_of}
-use Rattle.sheet_text.specs.Rows.{Row, all_plain, all_bare, row_ok, rows_ok, cell_text, row_text, rows_text, kind_of_content, asked, row_number, body_of, piece_as, pieces_of, rows_number}
+use Rattle.sheet_text.specs.Rows.{Row, all_plain, all_bare, row_ok, rows_ok, cell_text, row_text, rows_text, kind_of_content, asked, row_fault, body_of, piece_as, pieces_of, rows_fault}
 use Rattle.sheet_text.specs.Write.{line_text, text_of}
 use Rattle.sheet_text.specs.Claims.{WrittenIsRows, GoodRowsAreRead, WrittenIsReadBack, WrittenIsShort}
-use Rattle.sheet_text.proofs.WrittenCells.{bare, cells, same, Written, cells_written, cells_length, fields_are}
+use Rattle.sheet_text.proofs.Asked.{same, as_asked, four_asked, all_asked}
+use Rattle.sheet_text.proofs.WrittenCells.{bare, cells, Written, cells_written, cells_length, fields_are}
 use Rattle.sheet_text.proofs.Pieces.{Whole, AllWhole, session-whole, ended-whole, ended-fits}
 
 -- the row of a record
@@ -30,34 +29,15 @@ abbrev row_of : Piece → Row
 row_of p = record { first = bare (mark p.kind); others = cells (take (asked p.kind) (widths p.kind)) p.body }
 
 -- Of every mark, and of every row of the table of widths.
-mark-known : (k : Kind) → kind_of_content (mark k) ≡ Known k
-unfolding kind_of_content kind_at kind_among begins
-mark-known Open = refl
-mark-known Start = refl
-mark-known Commit = refl
-mark-known Abort = refl
-mark-known Wait = refl
-mark-known Step = refl
-mark-known Read = refl
-mark-known Write = refl
+mark-known : (k : Kind) → kind_of_content (mark k) ≡ Some k
+unfolding kind_of_content
+mark-known k = rw two_long (rw append-nil at (known k []))
 
 mark-plain : (k : Kind) → all_plain (mark k) ≡ true
 mark-plain = every (λ k. all_plain (mark k)) refl
 
-mark-length : (k : Kind) → length (mark k) ≡ 2
-mark-length = same (λ k. length (mark k)) (λ k. 2) refl
-
-all_asked : (k : Kind) → total (take (asked k) (widths k)) ≡ body_length k
-all_asked = same (λ k. total (take (asked k) (widths k))) body_length refl
-
 asked-length : (k : Kind) → length (take (asked k) (widths k)) ≡ asked k
 asked-length = same (λ k. length (take (asked k) (widths k))) asked refl
-
-as_written : (k : Kind) → numbers_of k ≡ asked k
-as_written = same numbers_of asked refl
-
-asked_few : (k : Kind) → asked k ≤ 4
-asked_few k = leb-true (asked k) 4 (every (λ j. leb (asked j) 4) refl k)
 
 -- One record.
 module _ (p : Piece) (h : Whole p) where
@@ -67,8 +47,8 @@ module _ (p : Piece) (h : Whole p) where
   body_back : body_of (widths p.kind) (row_of p).others ≡ p.body
   body_back = written.back ∙ rw (all_asked p.kind, ← h.length) (take-length p.body)
 
-  row_good : row_number (row_of p) ≡ 0
-  unfolding row_number
+  row_good : row_fault (row_of p) ≡ None
+  unfolding row_fault
   row_good =
       let count : length (row_of p).others ≡ asked p.kind =
       cells_length (take (asked p.kind) (widths p.kind)) p.body ∙ asked-length p.kind in
@@ -82,13 +62,13 @@ module _ (p : Piece) (h : Whole p) where
 
 line_row : (p : Piece) → line_text p ≡ row_text (row_of p) ++ (return ∷ newline ∷ [])
 unfolding line_text row_text cell_text
-line_row p = rw (as_written p.kind, fields_are p.kind p.body (asked p.kind) (asked_few p.kind))
+line_row p = rw (as_asked p.kind, fields_are p.kind p.body (asked p.kind) (four_asked p.kind))
 
 line_short : (p : Piece) → Whole p → length (line_text p) ≤ 4 * length (mark p.kind ++ p.body)
 unfolding row_text cell_text
 line_short p h =
     rw (line_row p)
-    (simp length-append (omega (arith, mark-length p.kind, asked_few p.kind, all_asked p.kind, h.length, (written p h).short)))
+    (simp length-append (omega (arith, two_long p.kind, four_asked p.kind, all_asked p.kind, h.length, (written p h).short)))
 
 -- All records.
 abbrev rows_of : List Piece → List Row
@@ -112,8 +92,8 @@ unfolding pieces_of
 rows_pieces [] h = refl
 rows_pieces (p ∷ ps) h = rw (row_pieces p h.0, rows_pieces ps h.1)
 
-rows_good : (n : ℕ) (ps : List Piece) → AllWhole ps → n + length (encoded ps) ≤ most_bytes → rows_number n (rows_of ps) ≡ 0
-unfolding rows_number
+rows_good : (n : ℕ) (ps : List Piece) → AllWhole ps → n + length (encoded ps) ≤ most_bytes → rows_fault n (rows_of ps) ≡ None
+unfolding rows_fault
 rows_good n [] h fits = refl
 rows_good n (p ∷ ps) h fits =
     let longer : ℕ = n + length (encoded (p ∷ [])) in
@@ -151,4 +131,4 @@ pub written_is_read_back : GoodRowsAreRead → WrittenIsReadBack
 written_is_read_back read bytes h e =
     let w = written_is_rows bytes h e in
     let r = read w.rows w.ok w.good in
-    rw w.is (r.number, r.bytes ∙ rw w.records (ended-whole bytes e))
+    rw w.is (r.good, r.bytes ∙ rw w.records (ended-whole bytes e))

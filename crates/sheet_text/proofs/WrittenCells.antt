@@ -1,5 +1,7 @@
 -- The fields that are written of a record's body, by the widths of its numbers: what they hold, stand for, and how long they are.
 use Rattle.std.specs.Prelude.{if◌then◌else◌}
+use Rattle.std.specs.List.{sum}
+use Rattle.std.proofs.lemmas.List.Sums.{sum_by-cons}
 use Prim.Native.Nat.{ℕ, zero, suc, ◌+◌, ◌*◌, ◌^◌, ◌<◌, ◌≤◌}
 use mathlib.Core.Path.{◌≡◌, refl, sym, ap, subst}
 use mathlib.Core.List.{List, [], ◌∷◌, ◌++◌, append_assoc, append-nil}
@@ -9,18 +11,17 @@ use lib.ListN.{length, take, drop, length-append, length-drop}
 use lib.Seq.{length-take-le, take-add, take-suc, drop-drop}
 use native.Mathlib.Nat.{lt_of_lt_of_le}
 use native.Mathlib.Omega.{arith}
-use borrow.Author.Tests.{lt-ltb, ne_eqb, eqb-true}
+use borrow.Author.Tests.{lt-ltb, ne_eqb}
 use Rattle.memory.proofs.Tools.{and_make}
-use Rattle.session_marks.specs.Marks.{kinds}
 use Rattle.session_marks.specs.declared.Kind.{Kind}
-use Rattle.session_fields.specs.Fields.{total, little_endian, number_at, widths}
-use Rattle.session_fields.proofs.Table.{all, every}
+use Rattle.session_fields.specs.Fields.{little_endian, number_at, widths}
 use Rattle.session_text.specs.Text.{digits}
 use Rattle.session_text.proofs.Laws.{digits-length}
 use Rattle.sheet_text.specs.Line.{little}
 use Rattle.sheet_text.specs.Rows.{Cell, all_plain, all_digits, decimal_from, decimal, cells_ok, cells_bare, cell_text, others_text, content_fits, contents_fit, body_of}
 use Rattle.sheet_text.specs.Write.{field_text, fields_text}
 use Rattle.sheet_text.specs.Claims.{Bytes}
+use Rattle.sheet_text.proofs.Asked.{four_widths}
 use Rattle.sheet_text.proofs.Decimal.{Writes, digits-write, digits-plain}
 use Rattle.sheet_text.proofs.Little.{bytes_taken, bytes_dropped, little_back, little-fits, three_digits}
 
@@ -77,22 +78,23 @@ pub record Written (n : ℕ) (ws b : List ℕ) : Type 0 where
   pub ok : cells_ok (cells (take n ws) b) ≡ true
   pub bare : cells_bare (cells (take n ws) b) ≡ true
   pub fit : contents_fit ws (cells (take n ws) b) ≡ true
-  pub back : body_of ws (cells (take n ws) b) ≡ take (total (take n ws)) b
-  pub short : length (others_text (cells (take n ws) b)) ≤ n + 3 * total (take n ws)
+  pub back : body_of ws (cells (take n ws) b) ≡ take (sum (take n ws)) b
+  pub short : length (others_text (cells (take n ws) b)) ≤ n + 3 * sum (take n ws)
 
-pub cells_written : (n : ℕ) (ws b : List ℕ) → Bytes b → total (take n ws) ≤ length b → Written n ws b
+pub cells_written : (n : ℕ) (ws b : List ℕ) → Bytes b → sum (take n ws) ≤ length b → Written n ws b
 unfolding body_of others_text cell_text
 cells_written zero ws b h whole = record { ok = refl; bare = refl; fit = refl; back = refl; short = omega arith }
 cells_written (suc n) [] b h whole = record { ok = refl; bare = refl; fit = refl; back = refl; short = omega arith }
 cells_written (suc n) (w ∷ ws) b h whole =
-    let one = part_good w (take w b) (length-take-le w b (omega arith)) (bytes_taken w h) in
-    let rest = cells_written n ws (drop w b) (bytes_dropped w h) (rw length-drop (omega arith)) in
+    let more = sum_by-cons (λ i. i) w (take n ws) in
+    let one = part_good w (take w b) (length-take-le w b (omega (arith, more))) (bytes_taken w h) in
+    let rest = cells_written n ws (drop w b) (bytes_dropped w h) (rw length-drop (omega (arith, more))) in
     record {
       ok = and_make one.plain rest.ok;
       bare = rest.bare;
       fit = and_make one.fits rest.fit;
-      back = rw (one.back, rest.back) (sym (take-add w (total (take n ws)) b));
-      short = omega (arith, one.short, rest.short, length-append (content_of w (take w b)) (others_text (cells (take n ws) (drop w b))));
+      back = rw (one.back, rest.back, more) (sym (take-add w (sum (take n ws)) b));
+      short = omega (arith, more, one.short, rest.short, length-append (content_of w (take w b)) (others_text (cells (take n ws) (drop w b))));
     }
 
 -- The same fields from the first to the last.
@@ -101,21 +103,14 @@ cells_length [] b = refl
 cells_length (w ∷ ws) b = ap suc (cells_length ws (drop w b))
 
 cells_more : (ws : List ℕ) (w : ℕ) (b : List ℕ)
-    → cells (ws ++ (w ∷ [])) b ≡ cells ws b ++ (bare (content_of w (take w (drop (total ws) b))) ∷ [])
+    → cells (ws ++ (w ∷ [])) b ≡ cells ws b ++ (bare (content_of w (take w (drop (sum ws) b))) ∷ [])
 cells_more [] w b = refl
-cells_more (u ∷ ws) w b = rw (← drop-drop (total ws) u b, cells_more ws w (drop u b))
+cells_more (u ∷ ws) w b = rw (sum_by-cons (λ i. i) u ws, ← drop-drop (sum ws) u b, cells_more ws w (drop u b))
 
 others_append : (cs ds : List Cell) → others_text (cs ++ ds) ≡ others_text cs ++ others_text ds
 unfolding others_text
 others_append [] ds = refl
 others_append (c ∷ cs) ds = rw (others_append cs ds, append_assoc)
-
--- two numbers that are the same for each of the eight kinds
-pub same : (f g : Kind → ℕ) → all (λ j. eqb (f j) (g j)) kinds ≡ true → (k : Kind) → f k ≡ g k
-same f g h k = eqb-true (f k) (g k) (every (λ j. eqb (f j) (g j)) h k)
-
-four_widths : (k : Kind) → length (widths k) ≡ 4
-four_widths = same (λ k. length (widths k)) (λ k. 4) refl
 
 pub fields_are : (k : Kind) (b : List ℕ) (n : ℕ) → n ≤ 4 → fields_text k n b ≡ others_text (cells (take n (widths k)) b)
 unfolding fields_text field_text number_at others_text cell_text

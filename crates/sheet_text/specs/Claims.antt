@@ -1,21 +1,21 @@
 -- What is promised of reading and writing: each statement once, under a name. proofs/Promises.antt proves them.
-use Rattle.std.specs.Prelude.{ℕ, ◌*◌, ◌<◌, ◌≤◌, ◌≡◌, ◌⊎◌, ◌≢◌, List, [], ◌∷◌, ◌++◌, Bool, true, false, length, drop, if◌then◌else◌}
+use Rattle.std.specs.Prelude.{ℕ, ◌*◌, ◌<◌, ◌≤◌, ◌≡◌, ◌⊎◌, ◌≢◌, None, Some, Ok, Err, List, [], ◌∷◌, ◌++◌, Bool, true, false, length, drop, if◌then◌else◌}
 use Rattle.memory.specs.History.{◌∈◌}
-use Rattle.session_split.specs.Session.{Piece, misplaced, session, encoded}
-use Rattle.session_split.specs.declared.Split.{Split}
-use Rattle.session_split.specs.declared.Split.TheVariants.{Refused, End}
+use Rattle.session_split.specs.declared.Fault.TheVariants.{CutShort, Misplaced}
+use Rattle.session_split.specs.Session.{Split, Piece, misplaced, session, encoded}
 use Rattle.sheet_text.specs.Turn.{return, newline}
-use Rattle.sheet_text.specs.Read.{Answer, read_of, session_of, reading}
+use Rattle.sheet_text.specs.Answer.{TextFault, told, Answer, number, length_of}
+use Rattle.sheet_text.specs.Read.{read_of, session_of, reading}
 use Rattle.sheet_text.specs.Write.{text_of, writing}
-use Rattle.sheet_text.specs.Rows.{Row, all_bare, row_ok, rows_ok, row_text, rows_text, rows_number, pieces_of}
+use Rattle.sheet_text.specs.Rows.{Row, all_bare, row_ok, rows_ok, row_text, rows_text, rows_fault, pieces_of}
 
 abbrev pub Bytes : List ℕ → Type 0
 Bytes l = (b : ℕ) → b ∈ l → b < 256
 
 -- What a buffer holds afterwards: as it was with every number but 0; else what was made, and behind it what stood there.
 pub record Leaves (out made : List ℕ) (r : Answer × List ℕ) : Type 0 where
-  pub refused : r.0.number ≢ 0 → (r.1 ≡ out) × (r.0.length ≡ 0)
-  pub done : r.0.number ≡ 0 → (r.0.length ≡ length made) × (r.1 ≡ made ++ drop (length made) out) × (length r.1 ≡ length out)
+  pub refused : number r.0 ≢ 0 → (r.1 ≡ out) × (length_of r.0 ≡ 0)
+  pub done : number r.0 ≡ 0 → (length_of r.0 ≡ length made) × (r.1 ≡ made ++ drop (length made) out) × (length r.1 ≡ length out)
 
 abbrev pub BuffersAreLeft : Type 0
 BuffersAreLeft =
@@ -26,42 +26,42 @@ BuffersAreLeft =
 abbrev pub ShortIsTold : Type 0
 ShortIsTold =
     (given out : List ℕ)
-    → ((reading given out).0.number ≡ 35 → length out < length (session_of given))
-    × ((writing given out).0.number ≡ 35 → length out < length (text_of (session given).pieces))
+    → (number (reading given out).0 ≡ 35 → length out < length (session_of given))
+    × (number (writing given out).0 ≡ 35 → length out < length (text_of (session given).pieces))
 
 -- Reading ----------------------------------------------------------------------------------------------------------------------------
 
--- a text was read: no number refuses it, and it stands for these records, one to a line
+-- a text was read: nothing refuses it, and it stands for these records, one to a line
 pub record Reads (text : List ℕ) (ps : List Piece) : Type 0 where
-  pub number : (read_of text).number ≡ 0
+  pub good : (read_of text).fault ≡ None
   pub lines : (read_of text).lines ≡ length ps
   pub bytes : session_of text ≡ encoded ps
 
 -- Rows that are all good are read, in whatever quotes they stand: the session has the record of each, in their order.
 abbrev pub GoodRowsAreRead : Type 0
-GoodRowsAreRead = (rows : List Row) → rows_ok rows ≡ true → rows_number 0 rows ≡ 0 → Reads (rows_text rows) (pieces_of rows)
+GoodRowsAreRead = (rows : List Row) → rows_ok rows ≡ true → rows_fault 0 rows ≡ None → Reads (rows_text rows) (pieces_of rows)
 
 -- The last row may lack its CR LF, if anything of it is there.
 abbrev pub LastMayLackItsEnd : Type 0
 LastMayLackItsEnd =
     (rows : List Row) (r : Row) → rows_ok rows ≡ true → row_ok r ≡ true → row_text r ≢ []
-    → ((read_of (rows_text rows ++ row_text r)).number ≡ (read_of (rows_text (rows ++ (r ∷ [])))).number)
+    → ((read_of (rows_text rows ++ row_text r)).fault ≡ (read_of (rows_text (rows ++ (r ∷ [])))).fault)
     × (session_of (rows_text rows ++ row_text r) ≡ session_of (rows_text (rows ++ (r ∷ []))))
 
 -- The first faulty row decides, whatever follows it.
 abbrev pub FirstFaultDecides : Type 0
 FirstFaultDecides =
-    (rows : List Row) (rest : List ℕ) → rows_ok rows ≡ true → rows_number 0 rows ≢ 0
-    → (read_of (rows_text rows ++ rest)).number ≡ rows_number 0 rows
+    (rows : List Row) (rest : List ℕ) (f : TextFault) → rows_ok rows ≡ true → rows_fault 0 rows ≡ Some f
+    → (read_of (rows_text rows ++ rest)).fault ≡ Some f
 
--- Nothing else is read: a text that no number refuses is rows of fields, of which the last may lack its CR LF.
+-- Nothing else is read: a text that nothing refuses is rows of fields, of which the last may lack its CR LF.
 pub record IsRows (text : List ℕ) : Type 0 where
   pub rows : List Row
   pub ok : rows_ok rows ≡ true
   pub is : (text ≡ rows_text rows) ⊎ (text ++ (return ∷ newline ∷ []) ≡ rows_text rows)
 
 abbrev pub OnlyRowsAreRead : Type 0
-OnlyRowsAreRead = (text : List ℕ) → (read_of text).number ≡ 0 → IsRows text
+OnlyRowsAreRead = (text : List ℕ) → (read_of text).fault ≡ None → IsRows text
 
 -- §18.2 to §18.4: a text that begins with a line: a row with CR LF behind it, or the last row, with nothing behind it. An empty text has
 -- no line, but is not astray either: here it counts as a last row, of one empty field.
@@ -77,8 +77,8 @@ Astray text = FirstLine text → ⊥
 -- §18.8: behind good rows, what begins with no line is answered 30, whatever else could be said of it.
 abbrev pub AstrayIsTold : Type 0
 AstrayIsTold =
-    (rows : List Row) (rest : List ℕ) → rows_ok rows ≡ true → rows_number 0 rows ≡ 0 → Astray rest
-    → (read_of (rows_text rows ++ rest)).number ≡ 30
+    (rows : List Row) (rest : List ℕ) → rows_ok rows ≡ true → rows_fault 0 rows ≡ None → Astray rest
+    → told (read_of (rows_text rows ++ rest)).fault ≡ 30
 
 -- a row without its CR LF, which may be nothing
 abbrev pub LastRow : List ℕ → Type 0
@@ -103,12 +103,12 @@ as_far first [] = []
 as_far first (p ∷ ps) = if misplaced first p.kind then [] else p ∷ as_far false ps
 
 abbrev pub end_of : Bool → List Piece → Split
-end_of first [] = if first then Refused 11 else End
-end_of first (p ∷ ps) = if misplaced first p.kind then Refused 12 else end_of false ps
+end_of first [] = if first then Err CutShort else Ok None
+end_of first (p ∷ ps) = if misplaced first p.kind then Err Misplaced else end_of false ps
 
 abbrev pub LinesAreRecords : Type 0
 LinesAreRecords =
-    (rows : List Row) → rows_number 0 rows ≡ 0
+    (rows : List Row) → rows_fault 0 rows ≡ None
     → ((session (encoded (pieces_of rows))).pieces ≡ as_far true (pieces_of rows))
     × ((session (encoded (pieces_of rows))).ended ≡ end_of true (pieces_of rows))
 
@@ -120,18 +120,18 @@ pub record WrittenAs (ps : List Piece) (text : List ℕ) : Type 0 where
   pub is : text ≡ rows_text rows
   pub bare : all_bare rows ≡ true
   pub ok : rows_ok rows ≡ true
-  pub good : rows_number 0 rows ≡ 0
+  pub good : rows_fault 0 rows ≡ None
   pub records : pieces_of rows ≡ ps
 
 -- Every text that is written is RFC 4180's, with the fields that are asked, and without quotes.
 abbrev pub WrittenIsRows : Type 0
-WrittenIsRows = (bytes : List ℕ) → Bytes bytes → (session bytes).ended ≡ End → WrittenAs (session bytes).pieces (text_of (session bytes).pieces)
+WrittenIsRows = (bytes : List ℕ) → Bytes bytes → (session bytes).ended ≡ Ok None → WrittenAs (session bytes).pieces (text_of (session bytes).pieces)
 
 -- What was written and read again is the same session.
 abbrev pub WrittenIsReadBack : Type 0
 WrittenIsReadBack =
-    (bytes : List ℕ) → Bytes bytes → (session bytes).ended ≡ End
-    → ((read_of (text_of (session bytes).pieces)).number ≡ 0) × (session_of (text_of (session bytes).pieces) ≡ bytes)
+    (bytes : List ℕ) → Bytes bytes → (session bytes).ended ≡ Ok None
+    → ((read_of (text_of (session bytes).pieces)).fault ≡ None) × (session_of (text_of (session bytes).pieces) ≡ bytes)
 
 -- No text is longer than four times its session.
 abbrev pub WrittenIsShort : Type 0

@@ -4,12 +4,11 @@ pub use Rattle.sheet_text.specs.declared.Letters.TheVariants.{NoLetter, One, Two
 pub use Rattle.sheet_text.specs.declared.Digits.{Digits}
 pub use Rattle.sheet_text.specs.declared.Digits.TheVariants.{NoDigit, Number, Other}
 pub use Rattle.sheet_text.specs.declared.Line.{Line}
-use Rattle.std.specs.Prelude.{ℕ, zero, suc, ◌+◌, ◌*◌, ◌-◌, ◌/◌, ◌%◌, ◌^◌, List, [], ◌∷◌, Bool, false, not, ◌&&◌, ◌||◌, ltb, leb, eqb, if◌then◌else◌}
+use Rattle.std.specs.Prelude.{ℕ, zero, suc, Option, None, Some, ◌+◌, ◌*◌, ◌-◌, ◌/◌, ◌%◌, ◌^◌, List, [], ◌∷◌, Bool, false, not, ◌&&◌, ◌||◌, ltb, leb, eqb, if◌then◌else◌}
 use Rattle.session_marks.specs.Marks.{kind_at, opens}
 use Rattle.session_marks.specs.declared.Kind.{Kind}
-use Rattle.session_marks.specs.declared.Marked.{Marked}
-use Rattle.session_marks.specs.declared.Marked.TheVariants.{Known, Unknown}
 use Rattle.session_fields.specs.Fields.{width}
+use Rattle.sheet_text.specs.Answer.{TextFault, WrongCount, WrongField, UnknownMark}
 
 -- a byte more of a field's content, as a mark and as a number
 abbrev pub add_letter : Letters → ℕ → Letters
@@ -31,11 +30,11 @@ add_digit (Number n) b = if is_digit b then grown n (b - 48) else Other
 add_digit Other b = Other
 
 -- §18.5: the mark that the first field is.
-abbrev pub kind_of : Letters → Marked
-kind_of NoLetter = Unknown
-kind_of (One a) = Unknown
+abbrev pub kind_of : Letters → Option Kind
+kind_of NoLetter = None
+kind_of (One a) = None
 kind_of (Two a b) = kind_at (a ∷ b ∷ [])
-kind_of More = Unknown
+kind_of More = None
 
 abbrev pub letters_of : Letters → List ℕ
 letters_of NoLetter = []
@@ -62,9 +61,9 @@ fits w Other = false
 abbrev pub numbers_of : Kind → ℕ
 numbers_of k = if opens k then 4 else 3
 
-abbrev pub width_at : Marked → ℕ → ℕ
-width_at Unknown i = 0
-width_at (Known k) i = width k i
+abbrev pub width_at : Option Kind → ℕ → ℕ
+width_at None i = 0
+width_at (Some k) i = width k i
 
 -- a number in so many bytes, the lowest first (§11.2)
 unfoldable pub little : ℕ → ℕ → List ℕ
@@ -73,7 +72,7 @@ little (suc w) n = n % 256 ∷ little w (n / 256)
 
 -- A line at its beginning; with a byte more in its field; and with its field ended.
 abbrev pub blank : Line
-blank = record { letters = NoLetter; digits = NoDigit; kind = Unknown; fields = 0; wrong = false }
+blank = record { letters = NoLetter; digits = NoDigit; kind = None; fields = 0; wrong = false }
 
 unfoldable pub with_byte : Line → ℕ → Line
 with_byte l b = record { letters = add_letter l.letters b; digits = add_digit l.digits b; kind = l.kind; fields = l.fields; wrong = l.wrong }
@@ -99,10 +98,10 @@ field_ended l =
       wrong = l.wrong || not (fits (width_at l.kind (l.fields - 1)) l.digits);
     }
 
--- §18.8: the number of a line whose fields have ended: 33, 31 and 32 come in this order.
-abbrev pub verdict_of : Marked → ℕ → Bool → ℕ
-verdict_of Unknown n wrong = 33
-verdict_of (Known k) n wrong = if not (eqb n (suc (numbers_of k))) then 31 else if wrong then 32 else 0
+-- §18.8: what refuses a line whose fields have ended: 33, 31 and 32 come in this order.
+abbrev pub verdict_of : Option Kind → ℕ → Bool → Option TextFault
+verdict_of None n wrong = Some UnknownMark
+verdict_of (Some k) n wrong = if not (eqb n (suc (numbers_of k))) then Some WrongCount else if wrong then Some WrongField else None
 
-abbrev pub verdict : Line → ℕ
+abbrev pub verdict : Line → Option TextFault
 verdict l = verdict_of l.kind l.fields l.wrong

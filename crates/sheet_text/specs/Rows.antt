@@ -1,15 +1,15 @@
 -- A text as RFC 4180 tells it: rows of fields, each bare or in quotes; and what a row asks for, by the content of its fields (§18.5 to
 -- §18.8). The claims are made of these, and not of the reader.
-use Rattle.std.specs.Prelude.{ℕ, ◌+◌, ◌*◌, ◌-◌, ◌^◌, List, [], ◌∷◌, ◌++◌, Bool, true, not, ◌&&◌, ◌||◌, ltb, eqb, length, if◌then◌else◌}
+use Rattle.std.specs.Prelude.{ℕ, ◌+◌, ◌*◌, ◌-◌, ◌^◌, Option, None, Some, List, [], ◌∷◌, ◌++◌, Bool, true, not, ◌&&◌, ◌||◌, ltb, eqb, length, if◌then◌else◌}
+use Rattle.std.specs.Option.{option_or}
 use Rattle.session_marks.specs.Marks.{kind_at}
 use Rattle.session_marks.specs.declared.Kind.{Kind}
 use Rattle.session_marks.specs.declared.Kind.TheVariants.{Open, Start, Commit, Abort, Wait, Step, Read, Write}
-use Rattle.session_marks.specs.declared.Marked.{Marked}
-use Rattle.session_marks.specs.declared.Marked.TheVariants.{Known, Unknown}
 use Rattle.session_fields.specs.Fields.{widths}
 use Rattle.session_split.specs.Session.{Piece, piece, most_bytes, encoded}
 use Rattle.sheet_text.specs.Turn.{quote, comma, return, newline}
 use Rattle.sheet_text.specs.Line.{little}
+use Rattle.sheet_text.specs.Answer.{TextFault, WrongCount, WrongField, UnknownMark, TooLong}
 
 -- How a text is written ------------------------------------------------------------------------------------------------------------
 
@@ -78,8 +78,8 @@ rows_text (r ∷ rs) = row_text r ++ (return ∷ newline ∷ rows_text rs)
 -- What a row asks for --------------------------------------------------------------------------------------------------------------
 
 -- §18.5: a mark is two bytes, and no more.
-unfoldable pub kind_of_content : List ℕ → Marked
-kind_of_content c = if eqb (length c) 2 then kind_at c else Unknown
+unfoldable pub kind_of_content : List ℕ → Option Kind
+kind_of_content c = if eqb (length c) 2 then kind_at c else None
 
 -- §18.6: digits alone, at least one; and the number that they write, however long
 abbrev pub digit : ℕ → Bool
@@ -118,16 +118,16 @@ asked Step = 3
 asked Read = 3
 asked Write = 3
 
--- §18.8: the number of a row, 0 if it is good
-abbrev pub row_number_of : Marked → List Cell → ℕ
-row_number_of Unknown cs = 33
-row_number_of (Known k) cs =
-    if not (eqb (length cs) (asked k)) then 31 else
-    if not (contents_fit (widths k) cs) then 32 else
-    0
+-- §18.8: what refuses a row, if anything does
+abbrev pub row_fault_of : Option Kind → List Cell → Option TextFault
+row_fault_of None cs = Some UnknownMark
+row_fault_of (Some k) cs =
+    if not (eqb (length cs) (asked k)) then Some WrongCount else
+    if not (contents_fit (widths k) cs) then Some WrongField else
+    None
 
-unfoldable pub row_number : Row → ℕ
-row_number r = row_number_of (kind_of_content r.first.content) r.others
+unfoldable pub row_fault : Row → Option TextFault
+row_fault r = row_fault_of (kind_of_content r.first.content) r.others
 
 -- the record that a good row stands for
 unfoldable pub body_of : List ℕ → List Cell → List ℕ
@@ -135,20 +135,18 @@ body_of ws [] = []
 body_of [] (c ∷ cs) = []
 body_of (w ∷ ws) (c ∷ cs) = little w (decimal c.content) ++ body_of ws cs
 
-abbrev pub piece_as : Marked → List Cell → List Piece
-piece_as Unknown cs = []
-piece_as (Known k) cs = piece k (body_of (widths k) cs) ∷ []
+abbrev pub piece_as : Option Kind → List Cell → List Piece
+piece_as None cs = []
+piece_as (Some k) cs = piece k (body_of (widths k) cs) ∷ []
 
 -- the records that rows stand for
 unfoldable pub pieces_of : List Row → List Piece
 pieces_of [] = []
 pieces_of (r ∷ rs) = piece_as (kind_of_content r.first.content) r.others ++ pieces_of rs
 
--- The number of rows after so many bytes of a session: that of the first faulty one; 34 where the session becomes too long.
-unfoldable pub rows_number : ℕ → List Row → ℕ
-rows_number n [] = 0
-rows_number n (r ∷ rs) =
-    if not (eqb (row_number r) 0) then row_number r else
+-- What refuses rows after so many bytes of a session: the fault of the first faulty one; or 34, where the session becomes too long.
+unfoldable pub rows_fault : ℕ → List Row → Option TextFault
+rows_fault n [] = None
+rows_fault n (r ∷ rs) =
     let m = n + length (encoded (pieces_of (r ∷ []))) in
-    if ltb most_bytes m then 34 else
-    rows_number m rs
+    option_or (row_fault r) (if ltb most_bytes m then Some TooLong else rows_fault m rs)

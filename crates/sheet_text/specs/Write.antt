@@ -1,15 +1,13 @@
 -- §18.10: a session written as text, and what writing it answers.
-use Rattle.std.specs.Prelude.{ℕ, zero, suc, List, [], ◌∷◌, ◌++◌, ltb, eqb, length, if◌then◌else◌}
+use Rattle.std.specs.Prelude.{ℕ, zero, suc, None, Some, Ok, Err, List, [], ◌∷◌, ◌++◌, eqb, length, if◌then◌else◌}
 use Rattle.session_marks.specs.Marks.{mark}
 use Rattle.session_marks.specs.declared.Kind.{Kind}
 use Rattle.session_fields.specs.Fields.{width, number}
-use Rattle.session_split.specs.Session.{Piece, session}
-use Rattle.session_split.specs.declared.Split.{Split}
-use Rattle.session_split.specs.declared.Split.TheVariants.{Record, Refused, End}
-use Rattle.session_text.specs.Text.{digits, written}
+use Rattle.session_split.specs.Session.{Split, Piece, session}
+use Rattle.session_text.specs.Text.{digits}
 use Rattle.sheet_text.specs.Turn.{comma, return, newline}
 use Rattle.sheet_text.specs.Line.{numbers_of}
-use Rattle.sheet_text.specs.Read.{Answer, answer}
+use Rattle.sheet_text.specs.Answer.{Session, Answer, wrote, refused, lent}
 
 -- a field: its number, or nothing if it is not used
 unfoldable pub field_text : Kind → ℕ → List ℕ → List ℕ
@@ -29,10 +27,9 @@ text_of (p ∷ ps) = line_text p ++ text_of ps
 
 -- What is answered, and what the buffer holds then. A fault of the session is answered by its number (§11.6).
 abbrev pub writing_as : List ℕ → List ℕ → ℕ → Split → Answer × List ℕ
-writing_as text out n (Refused r) = (answer r 0 n, out)
-writing_as text out n (Record k) = (answer 0 0 n, out)
-writing_as text out n End =
-    if ltb (length out) (length text) then (answer 35 0 n, out) else (answer 0 (length text) n, written out text)
+writing_as text out n (Err f) = lent (refused (Session f) n) text out
+writing_as text out n (Ok (Some k)) = (wrote 0 n, out)
+writing_as text out n (Ok None) = lent (wrote (length text) n) text out
 
 unfoldable pub writing : List ℕ → List ℕ → Answer × List ℕ
 writing bytes out = let s = session bytes in writing_as (text_of s.pieces) out (length s.pieces) s.ended

@@ -9,24 +9,19 @@ use Rattle.sheet_text.specs.declared.Turn.TheVariants.{Content, FieldEnds}
 use Rattle.sheet_text.specs.Turn.{special, quote, comma, return, newline, leave, bare, turn}
 use Rattle.sheet_turn.specs.Contract.{is_open}
 
--- one of the four leaves a bare field
-pub leaves : (b : ℕ) → special b ≡ true → bare b ≡ leave b
-unfolding bare
-leaves b e = rw e
-
 -- a test that holds of neither part
 neither : (a b : Bool) → (a || b) ≡ false → a ≡ false
 neither true b e = absurd (false≢true (sym e))
 neither false b e = refl
 
 -- a comma ends the field, and a byte that is none of the four is its content
-pub comma-ends : (s : Spot) → is_open s ≡ true → turn s comma ≡ FieldEnds
+pub comma_ends : (s : Spot) → is_open s ≡ true → turn s comma ≡ FieldEnds
 unfolding bare leave
-comma-ends Fresh e = refl
-comma-ends Bare e = refl
-comma-ends Quoted e = absurd (false≢true e)
-comma-ends Closed e = absurd (false≢true e)
-comma-ends Return e = absurd (false≢true e)
+comma_ends Fresh e = refl
+comma_ends Bare e = refl
+comma_ends Quoted e = absurd (false≢true e)
+comma_ends Closed e = absurd (false≢true e)
+comma_ends Return e = absurd (false≢true e)
 
 pub plain_goes_on : (s : Spot) (b : ℕ) → is_open s ≡ true → special b ≡ false → turn s b ≡ Content Bare
 unfolding bare

@@ -9,32 +9,22 @@ ghost use Rattle.sheet_turn.specs.Contract.{is_open};
 use sheet_text::{COMMA, NEWLINE, QUOTE, RETURN, Spot, Turn};
 
 // A byte behind a field.
+#[tactic(auto, unfolding(sheet_text::specs::Turn::leave))]
 fn leave(byte: u8) -> Turn
     ensures { result ≡ spec.leave byte }
 {
-    if byte == COMMA {
-        return Turn::FieldEnds;
+    match byte {
+        COMMA => Turn::FieldEnds,
+        RETURN => Turn::Beside(Spot::Return),
+        _ => Turn::Stray,
     }
-    if byte == RETURN {
-        return Turn::Beside(Spot::Return);
-    }
-    Turn::Stray
 }
 
 // Whether a byte is one of the four that mean something. None is above the comma, and most bytes of a text are.
 fn is_special(byte: u8) -> bool
     ensures { result ≡ spec.special byte }
 {
-    if COMMA < byte {
-        return false;
-    }
-    match byte {
-        QUOTE => true,
-        COMMA => true,
-        RETURN => true,
-        NEWLINE => true,
-        _ => false,
-    }
+    byte <= COMMA && matches!(byte, QUOTE | COMMA | RETURN | NEWLINE)
 }
 
 // A quote is one thing, and every other byte another.
@@ -48,16 +38,11 @@ fn by_quote(byte: u8, quote: Turn, other: Turn) -> Turn
 fn is_open(spot: Spot) -> bool
     ensures { result ≡ is_open spot }
 {
-    match spot {
-        Spot::Fresh => true,
-        Spot::Bare => true,
-        Spot::Quoted => false,
-        Spot::Closed => false,
-        Spot::Return => false,
-    }
+    matches!(spot, Spot::Fresh | Spot::Bare)
 }
 
 // A byte that is no content of a bare field.
+#[tactic(auto, unfolding(sheet_text::specs::Turn::bare))]
 fn turn_aside(spot: Spot, byte: u8) -> Turn
     requires { is_open spot ≡ true → spec.special byte ≡ true }
     ensures { result ≡ spec.turn spot byte }
@@ -71,18 +56,14 @@ fn turn_aside(spot: Spot, byte: u8) -> Turn
             Turn::Content(Spot::Quoted),
         ),
         Spot::Closed => by_quote(byte, Turn::Content(Spot::Quoted), leave(byte)),
-        Spot::Return => {
-            if byte == NEWLINE {
-                Turn::LineEnds
-            } else {
-                Turn::Stray
-            }
-        }
+        Spot::Return if byte == NEWLINE => Turn::LineEnds,
+        Spot::Return => Turn::Stray,
     }
 }
 
 // §18.3: what a byte is where it stands. Most bytes are content of a bare field, or the comma behind it. These are told first, and at
 // once for both places where such a field is open: the compiler makes fewer jumps of that.
+#[tactic(auto, unfolding(sheet_text::specs::Turn::bare), using(crate::proofs::Open::plain_goes_on, crate::proofs::Open::comma_ends))]
 pub fn turn(spot: Spot, byte: u8) -> Turn
     ensures { result ≡ spec.turn spot byte }
 {
@@ -102,16 +83,8 @@ pub fn ending(spot: Spot, fields: usize) -> Turn
     ensures { result ≡ spec.ending spot fields }
 {
     match spot {
-        Spot::Fresh => {
-            if fields == 0 {
-                Turn::Beside(Spot::Fresh)
-            } else {
-                Turn::LineEnds
-            }
-        }
-        Spot::Bare => Turn::LineEnds,
-        Spot::Quoted => Turn::Stray,
-        Spot::Closed => Turn::LineEnds,
-        Spot::Return => Turn::Stray,
+        Spot::Fresh if fields == 0 => Turn::Beside(Spot::Fresh),
+        Spot::Fresh | Spot::Bare | Spot::Closed => Turn::LineEnds,
+        Spot::Quoted | Spot::Return => Turn::Stray,
     }
 }

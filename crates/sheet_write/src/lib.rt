@@ -2,97 +2,92 @@
 
 #![tactic(auto)]
 
-ghost use Rattle.std.specs.Prelude.{◌≡◌, ◌<◌, length, take};
+ghost use Rattle.std.specs.Prelude.{◌≡◌, ◌<◌, take};
 ghost use Rattle.session_marks.specs.Marks.{mark};
 ghost use Rattle.session_split.specs.Session as split;
 ghost use Rattle.session_split.specs.Session.{piece, body};
-ghost use Rattle.session_text.specs.Text.{Put};
+ghost use Rattle.session_text.specs.Out.{Puts};
+ghost use Rattle.session_text.specs.Text.{stored};
 ghost use Rattle.sheet_text.specs.Write as spec;
-ghost use Rattle.sheet_write.specs.Contract.{field_room, line_room, lines_room};
+ghost use Rattle.sheet_write.specs.Contract.{field_room, line_room, known};
 
 use session_marks::Kind;
-use session_split::Split;
-use sheet_text::{Answer, COMMA};
-
-// How the records of a session ended, after so many of them and so many bytes of text.
-#[derive(Clone, Copy)]
-pub struct Lines {
-    pub end: Split,
-    pub length: usize,
-    pub records: usize,
-}
+use session_text::Out;
+use sheet_text::{COMMA, Cause, Done, Refused};
 
 // Puts a field with its comma: its number, or nothing if it is not used.
-fn put_field(out: &mut [u8], at: usize, kind: Kind, field: usize, body: &[u8]) -> usize
-    requires { (at < 1000000000) × (field < 4) }
-    ensures { Put field_room out.old at (spec.field_text kind field body.now) out.new result }
+#[tactic(auto, unfolding(sheet_text::specs::Write::field_text))]
+fn put_field(out: &mut Out<'_>, kind: Kind, field: usize, body: &[u8])
+    requires { (out.old.at < 1000000000) × (field < 4) }
+    ensures { Puts field_room out.old out.new (spec.field_text kind field body.now) }
 {
-    let next = session_text::put_byte(out, at, COMMA);
-    if session_fields::width(kind, field) == 0 {
-        return next;
+    out.put_byte(COMMA);
+    if session_fields::width(kind, field) != 0 {
+        out.put_number(session_fields::number(body, kind, field));
     }
-    session_text::put_number(out, next, session_fields::number(body, kind, field))
 }
 
 // Puts the line of a record. Its mark stands in the session.
-fn put_line(out: &mut [u8], at: usize, kind: Kind, rest: &[u8]) -> usize
-    requires { (at < 900000000) × (take 2 rest.now ≡ mark kind) }
-    ensures { Put line_room out.old at
-        (spec.line_text (piece kind (body kind rest.now))) out.new result }
+#[tactic(auto, using(crate::proofs::Fields::few))]
+fn put_line(out: &mut Out<'_>, kind: Kind, rest: &[u8])
+    requires { (out.old.at < 900000000) × (take 2 rest.now ≡ mark kind) }
+    ensures { Puts line_room out.old out.new (spec.line_text (piece kind (body kind rest.now))) }
 {
     let body = session_split::body(rest, kind);
-    let a = session_text::put_byte(out, at, session_fields::byte_at(rest, 0));
-    let mut next = session_text::put_byte(out, a, session_fields::byte_at(rest, 1));
+    out.put_byte(session_fields::byte_at(rest, 0));
+    out.put_byte(session_fields::byte_at(rest, 1));
     for field in 0..sheet_line::numbers_of(kind) {
-        next = put_field(out, next, kind, field, body);
+        put_field(out, kind, field, body);
     }
-    let b = session_text::put_byte(out, next, sheet_text::RETURN);
-    session_text::put_byte(out, b, sheet_text::NEWLINE)
+    out.put_byte(sheet_text::RETURN);
+    out.put_byte(sheet_text::NEWLINE);
 }
 
-// Puts the lines of a session's records, as far as the buffer reaches.
-fn put_lines(session: &[u8], out: &mut [u8]) -> Lines
-    ensures { (result.end ≡ (split.session session.now).ended)
-        × (result.records ≡ length (split.session session.now).pieces)
-        × Put lines_room out.old 0 (spec.text_of (split.session session.now).pieces) out.new result.length }
+// Puts the lines of a session's records, as far as the buffer reaches: what is known at its end.
+fn put_lines(session: &[u8], out: &mut [u8]) -> Result<Done, Refused>
+    ensures { (result ≡ known session.now)
+        × (out.new ≡ stored out.old 0 (spec.text_of (split.session session.now).pieces)) }
 {
     let mut from: usize = 0;
-    let mut records: usize = 0;
-    let mut length: usize = 0;
+    let mut lines: usize = 0;
+    let mut out = Out { buffer: out, at: 0 };
+    // Stays a loop that counts: the records say where the next one begins, and a `for` would need an end that no session reaches.
     loop {
         let rest = &session[from..];
-        let next = session_split::split_off(rest, records == 0);
-        let Split::Record(kind) = next else {
-            return Lines {
-                end: next,
-                length,
-                records,
-            };
-        };
-        length = put_line(out, length, kind, rest);
-        from = from + session_split::record_length(kind);
-        records = records + 1;
+        match session_split::split_off(rest, lines == 0) {
+            Ok(Some(kind)) => {
+                put_line(&mut out, kind, rest);
+                from += session_split::record_length(kind);
+                lines += 1;
+            }
+            Ok(None) => {
+                return Ok(Done {
+                    length: out.at,
+                    lines,
+                });
+            }
+            Err(fault) => {
+                return Err(Refused {
+                    cause: Cause::Session(fault),
+                    lines,
+                });
+            }
+        }
     }
 }
 
-// §18.10: writes a session as text into a lent buffer, once to learn its number and length and once to write. Nothing is written if it
-// is refused.
-pub fn write(session: &[u8], out: &mut [u8]) -> Answer
+// §18.10: writes a session as text into a lent buffer, once to learn its length, or what refuses it, and once to write. Nothing is
+// written if it is refused.
+pub fn write(session: &[u8], out: &mut [u8]) -> Result<Done, Refused>
     ensures { spec.writing session.now out.old ≡ (result, out.new) }
 {
     let mut nowhere = [0u8; 1];
-    let known = put_lines(session, &mut nowhere);
-    let end = known.end;
-    if let Split::Refused(number) = end {
-        return sheet_text::refused(number, known.records);
-    }
+    let known = put_lines(session, &mut nowhere)?;
     if out.len() < known.length {
-        return sheet_text::refused(sheet_text::NO_ROOM, known.records);
+        return Err(Refused {
+            cause: Cause::NoRoom,
+            lines: known.lines,
+        });
     }
-    put_lines(session, out);
-    Answer {
-        number: 0,
-        length: known.length,
-        lines: known.records,
-    }
+    put_lines(session, out)
 }

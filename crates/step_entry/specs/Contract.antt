@@ -2,10 +2,8 @@
 use Rattle.std.specs.Prelude.{ℕ, suc, ◌%◌, ◌<◌, ◌≤◌, ◌≡◌, true, List}
 use Rattle.memory.specs.declared.Sizes.{Sizes}
 use Rattle.memory.specs.declared.Outcome.{Outcome}
-use Rattle.memory.specs.declared.Outcome.TheVariants.{Committed, Failed, Woken}
 use Rattle.memory.specs.declared.Phase.{Phase}
 use Rattle.memory.specs.declared.Phase.TheVariants.{Writing}
-use Rattle.memory.specs.declared.Entry.{Entry}
 use Rattle.memory.specs.Pieces.{Memory, memory, position_of, held, place, entry, moved, set_word, set_place, move}
 use Rattle.memory.specs.Sound.{sound}
 use Rattle.memory.specs.Step.{release_step}
@@ -47,11 +45,6 @@ pub record MayRelease (z : Sizes) (records : List ℕ) (entries : List (List ℕ
   pub words : List ℕ
   pub places : List (List ℕ)
   pub entered : Entered z (memory words records places entries) t i
-
-abbrev pub version_by : Outcome → Entry → ℕ
-version_by Committed e = e.new.version
-version_by Failed e = e.old.version
-version_by Woken e = e.old.version
 
 abbrev pub releases : Sizes → Memory → ℕ → Outcome → ℕ → Memory
 releases z m t o i = release_step m t o i (record_at z m t i) (entry z m t i) (held m (record_at z m t i))

@@ -4,7 +4,8 @@
 
 ghost use Rattle.std.specs.Prelude.{◌≡◌, [], ◌+◌, ◌<◌, length, get_or};
 ghost use Rattle.memory.specs.Pieces.{entry_of, run_start, most_tasks};
-ghost use Rattle.step_entry.specs.Contract.{MayWrite, Wrote, MayRelease, Released, version_by};
+ghost use Rattle.memory.specs.Step.{released};
+ghost use Rattle.step_entry.specs.Contract.{MayWrite, Wrote, MayRelease, Released};
 
 use memory::{Entry, EntryRow, Held, Outcome, Phase, Sizes};
 
@@ -13,8 +14,7 @@ pub fn entry_at(i: usize, sizes: Sizes, entries: &[EntryRow], task: usize) -> En
     requires { (task < most_tasks) × (run_start sizes task + i < length entries.now) }
     ensures { result ≡ entry_of (get_or entries.now (run_start sizes task + i) []) }
 {
-    let start = memory::run_start(sizes, task);
-    table_rows::entry_in(entries, start + i)
+    Entry::from(entries[sizes.run_start(task) + i])
 }
 
 // §7.11: a step in Writing, on entry i.
@@ -23,20 +23,17 @@ pub fn write(i: usize, sizes: Sizes, words: &mut [u32], entries: &[EntryRow], ta
     ensures { Wrote i sizes words.old entries.now task result words.new }
 {
     let entry = entry_at(i, sizes, entries, task);
-    let address = table_rows::wide(entry.address);
-    let next = i + 1;
-    words[address] = entry.new.value;
-    Phase::Writing(next)
+    words[entry.address as usize] = entry.new.value;
+    Phase::Writing(i + 1)
 }
 
 // §7.13: the version that a record is given back with.
 fn released(outcome: Outcome, entry: Entry) -> u32
-    ensures { result ≡ version_by outcome entry }
+    ensures { result ≡ released outcome entry }
 {
     match outcome {
         Outcome::Committed => entry.new.version,
-        Outcome::Failed => entry.old.version,
-        Outcome::Woken => entry.old.version,
+        Outcome::Failed | Outcome::Woken => entry.old.version,
     }
 }
 
@@ -53,19 +50,14 @@ pub fn release(
     ensures { Released outcome i sizes records.old entries.now task result records.new }
 {
     let entry = entry_at(i, sizes, entries, task);
-    let at = table_rows::record_of(sizes, entry.address);
-    let next = i + 1;
-    let goes_on = Phase::Releasing(outcome, next);
-    match table_rows::held_of(records[at]) {
-        Held::Version(_) => goes_on,
-        Held::Owner(owner) => {
-            if owner == task {
-                let version = released(outcome, entry);
-                records[at] = table_rows::version_number(version);
-                goes_on
-            } else {
-                goes_on
-            }
+    let at = sizes.record_of(entry.address);
+    match Held::from(records[at]) {
+        Held::Owner(owner) if owner == task => {
+            records[at] = Held::Version(released(outcome, entry)).number();
         }
+        // Stay two arms: one for both tells the proof nothing of what the record holds.
+        Held::Owner(_) => {}
+        Held::Version(_) => {}
     }
+    Phase::Releasing(outcome, i + 1)
 }

@@ -5,16 +5,17 @@
 ghost use Rattle.std.specs.Prelude.{◌≡◌};
 ghost use Rattle.memory.specs.Step as spec;
 ghost use Rattle.step_wake.specs.Contract.{MayWake};
-ghost use Rattle.step_meet.specs.Contract.{Clashed, Decides, MayLook, Seen, MayCome, Came};
+ghost use Rattle.step_meet.specs.Contract.{Clashed, MayLook, Seen, MayCome, Came};
 
 use memory::{Entry, EntryRow, Goal, Outcome, Phase, Place, PlaceRow, Sizes};
 
-// What becomes of one that comes to another's record: it joins a sleeper; it fails alone; or it fails and the owner is met.
+// A task that comes to another's record: its place, what it takes for, and with which of its entries it comes.
 #[derive(Clone, Copy)]
-enum Meeting {
-    Joins,
-    Differs,
-    Clashes,
+pub struct Coming {
+    pub place: Place,
+    pub goal: Goal,
+    pub i: usize,
+    pub entry: Entry,
 }
 
 // §7.7, §7.17: the owner's place is moved on by a clash; with a sleeper all end who are to.
@@ -22,14 +23,13 @@ fn clash(owner: usize, places: &mut [PlaceRow])
     requires { MayWake places.old owner }
     ensures { Clashed owner places.old places.new }
 {
-    let place = table_rows::place_of(places[owner]);
-    let phase = place.phase;
-    if table_rows::is_taking(phase) {
-        let next = table_rows::moved(place, Phase::Releasing(Outcome::Failed, 0));
-        let row = table_rows::row_of(next);
-        places[owner] = row;
-    } else if table_rows::is_asleep(phase) {
-        step_wake::wake(owner, places);
+    let place = Place::from(places[owner]);
+    match place.phase {
+        Phase::Taking(_, _) => {
+            places[owner] = place.moved(Phase::Releasing(Outcome::Failed, 0)).row();
+        }
+        Phase::Asleep => step_wake::wake(owner, places),
+        _ => {}
     }
 }
 
@@ -37,66 +37,47 @@ fn clash(owner: usize, places: &mut [PlaceRow])
 fn joining(goal: Goal, phase: Phase) -> bool
     ensures { result ≡ spec.joining goal phase }
 {
-    match goal {
-        Goal::Commit => false,
-        Goal::Sleep => table_rows::is_asleep(phase),
-    }
+    goal == Goal::Sleep && phase.is_asleep()
 }
 
-// §7.7, §7.8: which of the three it is, by the versions that the two have seen.
-fn decided(goal: Goal, phase: Phase, seen: u32, version: u32) -> Meeting
-    ensures { Decides goal phase seen version result }
-{
-    if !joining(goal, phase) {
-        return Meeting::Clashes;
-    }
-    if seen != version {
-        return Meeting::Differs;
-    }
-    Meeting::Joins
-}
-
-// The old version of an owner's entries on a record.
+// The old version of an owner's entries on a record. There is one, since the record is the owner's.
 fn version_on(sizes: Sizes, count: usize, entries: &[EntryRow], owner: usize, record: usize) -> u32
     requires { MayLook sizes count entries.now owner «record» }
     ensures { Seen sizes count entries.now owner «record» result }
 {
-    let start = memory::run_start(sizes, owner);
-    let run = &entries[start..];
-    let on = table_search::index_on(run, count, sizes.records as u32, record as u32);
-    let entry = table_rows::entry_in(run, on);
+    let run = table_search::run_of(sizes, entries, owner, count);
+    let entry = table_search::find_record(run, sizes.records as u32, record as u32).unwrap();
     entry.old.version
 }
 
-// The place of a task that has come with its entry i to a record of another's.
+// The place of a task that has come to a record of another's. It joins a sleeper that has seen the same version.
 pub fn meet(
-    place: Place,
-    goal: Goal,
-    i: usize,
+    coming: Coming,
     sizes: Sizes,
     places: &mut [PlaceRow],
     entries: &[EntryRow],
-    entry: Entry,
-    record: usize,
     owner: usize,
 ) -> Place
-    requires { MayCome place i sizes places.old entries.now entry «record» owner }
-    ensures { Came place goal i sizes places.old entries.now entry «record» owner result places.new }
+    requires { MayCome coming sizes places.old entries.now owner }
+    ensures { Came coming sizes places.old entries.now owner result places.new }
 {
-    let met = table_rows::place_of(places[owner]);
-    let phase = met.phase;
-    let seen = version_on(sizes, met.count, entries, owner, record);
-    let fails = table_rows::moved(place, Phase::Releasing(Outcome::Failed, 0));
-    match decided(goal, phase, seen, entry.old.version) {
-        Meeting::Clashes => {
-            clash(owner, places);
-            fails
-        }
-        Meeting::Differs => fails,
-        Meeting::Joins => {
-            let next = i + 1;
-            let joins = task_sets::with(place.joins, owner);
-            table_rows::placed(place, Phase::Taking(goal, next), joins)
-        }
+    let Coming {
+        place,
+        goal,
+        i,
+        entry,
+    } = coming;
+    let met = Place::from(places[owner]);
+    let fails = Phase::Releasing(Outcome::Failed, 0);
+    if !joining(goal, met.phase) {
+        clash(owner, places);
+        return place.moved(fails);
     }
+    let record = sizes.record_of(entry.address);
+    let seen = version_on(sizes, met.count, entries, owner, record);
+    if seen != entry.old.version {
+        return place.moved(fails);
+    }
+    let joins = place.joins.with(owner);
+    place.placed(Phase::Taking(goal, i + 1), joins)
 }

@@ -1,6 +1,7 @@
 -- The laws of a step by the task's phase: what each phase does is what the definition says of a task in that phase.
 use Prim.Native.Nat.{ℕ, ◌<◌, ◌≤◌}
-use mathlib.Core.Path.{◌≡◌, refl, sym, ap, ◌∙◌}
+use mathlib.Core.Path.{◌≡◌, sym, ap, ◌∙◌}
+use mathlib.Core.Logic.{◌⊎◌, ⊎_elim}
 use mathlib.Core.List.{List, []}
 use lib.ListN.{get_or, set}
 use lib.Seq.{set-get_or}
@@ -13,16 +14,16 @@ use Rattle.memory.specs.declared.Outcome.TheVariants.{Committed}
 use Rattle.memory.specs.declared.Phase.{Phase}
 use Rattle.memory.specs.declared.Phase.TheVariants.{Idle, Open, Taking, Asleep, Writing, Releasing}
 use Rattle.memory.specs.declared.Place.{Place}
-use Rattle.memory.specs.Pieces.{Memory, memory, place, row_of, limit, moved, set_place, move}
-use Rattle.memory.specs.Numbers.{Reply, reply, plain, refused, too_early}
-use Rattle.memory.specs.Step.{step_in}
+use Rattle.memory.specs.Pieces.{Memory, memory, place, row_of, limit, ended, moved, set_place, move}
+use Rattle.memory.specs.Numbers.{Reply, reply, plain, too_early}
+use Rattle.memory.specs.Step.{end_number, step_in}
 use Rattle.memory.proofs.Facts.{count_most, position_n}
 use Rattle.step_entry.specs.Contract.{Entered, Leaves, writes, releases}
 use Rattle.step_entry.proofs.Parts.{row_is}
 use Rattle.step_take.specs.Contract as Took
 use Rattle.step_take.specs.Contract.{takes}
 use Rattle.step_phase.specs.declared.Moved.{Moved}
-use Rattle.step_phase.specs.Contract.{Ready, Stepped, Decided, goes_to, ends_by}
+use Rattle.step_phase.specs.Contract.{Ready, Stepped, Decided, plainly}
 
 -- a row stored back as it was changes nothing
 stays : (m : Memory) (t : ℕ) → get_or m.places t [] ≡ row_of (place m t) → set_place m t (place m t) ≡ m
@@ -52,7 +53,7 @@ module _ {q : Place} {z : Sizes} {words records : List ℕ} {places entries : Li
 
   over : {i : ℕ} {p : Phase} {w : Memory} {words' records' : List ℕ} {places' : List (List ℕ)}
       → i < q.count → Leaves m (memory words' records' places' entries) t i p w → step_in z m t q.count q.phase ≡ reply 0 0 w
-      → Stepped q z words records places entries t (goes_to q p 0).place words' records' places' (goes_to q p 0).answer
+      → Stepped q z words records places entries t (moved q p) words' records' places' (plain 0)
   over {p = p} {words'} {records'} {places'} h l k =
       record {
         leaves = ap (λ (x : Place). reply 0 0 (set_place (memory words' records' places' entries) t (moved x p))) y.own ∙ ap (reply 0 0) l.leaves ∙ sym k;
@@ -73,13 +74,13 @@ module _ {q : Place} {z : Sizes} {words records : List ℕ} {places entries : Li
 
   pub over-writing : {i : ℕ} {p : Phase} {words' : List ℕ} → q.phase ≡ Writing i → i < q.count
       → Leaves m (memory words' records places entries) t i p (writes z m t i)
-      → Stepped q z words records places entries t (goes_to q p 0).place words' records places (goes_to q p 0).answer
+      → Stepped q z words records places entries t (moved q p) words' records places (plain 0)
   unfolding step_in
   over-writing {i = i} e h l = over h l (ap In e ∙ rw (lt-ltb i q.count h))
 
   pub over_releasing : {o : Outcome} {i : ℕ} {p : Phase} {records' : List ℕ} → q.phase ≡ Releasing o i → i < q.count
       → Leaves m (memory words records' places entries) t i p (releases z m t o i)
-      → Stepped q z words records places entries t (goes_to q p 0).place words records' places (goes_to q p 0).answer
+      → Stepped q z words records places entries t (moved q p) words records' places (plain 0)
   unfolding step_in
   over_releasing {i = i} e h l = over h l (ap In e ∙ rw (lt-ltb i q.count h))
 
@@ -94,7 +95,7 @@ module _ {q : Place} {z : Sizes} {words records : List ℕ} {places entries : Li
         position_fits = omega (arith, d.at_start);
       }
 
-  pub written : {i : ℕ} → q.phase ≡ Writing i → q.count ≤ i → Leads (goes_to q (Releasing Committed 0) 0)
+  pub written : {i : ℕ} → q.phase ≡ Writing i → q.count ≤ i → Leads (plainly (moved q (Releasing Committed 0)) 0)
   unfolding step_in move
   written {i = i} e h =
       record {
@@ -103,9 +104,9 @@ module _ {q : Place} {z : Sizes} {words records : List ℕ} {places entries : Li
         position_fits = omega arith;
       }
 
-  pub ended : {o : Outcome} {i : ℕ} → q.phase ≡ Releasing o i → q.count ≤ i → Leads (ends_by o)
+  pub ends : {o : Outcome} {i : ℕ} → q.phase ≡ Releasing o i → q.count ≤ i → Leads (plainly ended (end_number o))
   unfolding step_in
-  ended {i = i} e h =
+  ends {i = i} e h =
       record {
         leaves = sym (ap In e ∙ rw (le-ltb i q.count h));
         count_fits = omega arith;
@@ -114,7 +115,7 @@ module _ {q : Place} {z : Sizes} {words records : List ℕ} {places entries : Li
 
   -- Nothing changes ------------------------------------------------------------------------------------------------------------
 
-  keeps : (n : ℕ) → In q.phase ≡ reply n 0 m → Leads (goes_to q q.phase n)
+  keeps : (n : ℕ) → In q.phase ≡ reply n 0 m → Leads (plainly q n)
   keeps n k =
       record {
         leaves = ap (reply n 0) (ap (set_place m t) y.own ∙ stays m t (row_is y.among)) ∙ sym k;
@@ -122,18 +123,10 @@ module _ {q : Place} {z : Sizes} {words records : List ℕ} {places entries : Li
         position_fits = rw y.own (position_n z m y.among.ok t y.among.task_in);
       }
 
-  pub asleep : q.phase ≡ Asleep → Leads (goes_to q q.phase 20)
+  pub asleep : q.phase ≡ Asleep → Leads (plainly q 20)
   unfolding step_in
   asleep e = keeps 20 (ap In e)
 
-  -- a phase that a step refuses
-  too_early_lem : (p : Phase) → q.phase ≡ p → In p ≡ refused (too_early p) m → Leads (goes_to q q.phase (too_early q.phase))
-  too_early_lem p e k = keeps (too_early q.phase) (ap In e ∙ k ∙ sym (ap (λ (x : Phase). refused (too_early x) m) e))
-
-  pub open_refused : q.phase ≡ Open → Leads (goes_to q q.phase (too_early q.phase))
+  pub refuses : (q.phase ≡ Open) ⊎ (q.phase ≡ Idle) → Leads (plainly q (too_early q.phase))
   unfolding step_in
-  open_refused e = too_early_lem Open e refl
-
-  pub idle_refused : q.phase ≡ Idle → Leads (goes_to q q.phase (too_early q.phase))
-  unfolding step_in
-  idle_refused e = too_early_lem Idle e refl
+  refuses = ⊎_elim (λ e. keeps (too_early q.phase) (rw e)) (λ e. keeps (too_early q.phase) (rw e))

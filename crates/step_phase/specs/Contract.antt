@@ -2,14 +2,11 @@
 use Rattle.std.specs.Prelude.{ℕ, ◌≤◌, ◌≡◌, List}
 use Rattle.memory.specs.declared.Sizes.{Sizes}
 use Rattle.memory.specs.declared.Goal.{Goal}
-use Rattle.memory.specs.declared.Outcome.{Outcome}
-use Rattle.memory.specs.declared.Phase.{Phase}
-use Rattle.memory.specs.declared.Phase.TheVariants.{Idle}
 use Rattle.memory.specs.declared.Place.{Place}
 use Rattle.memory.specs.declared.Answer.{Answer}
-use Rattle.memory.specs.Pieces.{Memory, memory, position_of, place, limit, ended, moved, set_place}
+use Rattle.memory.specs.Pieces.{Memory, memory, position_of, place, limit, set_place}
 use Rattle.memory.specs.Numbers.{replied, plain}
-use Rattle.memory.specs.Step.{decide, end_number, step_in}
+use Rattle.memory.specs.Step.{decide, step_in}
 use Rattle.step_entry.specs.Contract.{Among}
 use Rattle.step_phase.specs.declared.Moved.{Moved}
 
@@ -23,12 +20,9 @@ pub record Stepped (q : Place) (z : Sizes) (words records : List ℕ) (places en
   pub count_fits : q'.count ≤ limit z
   pub position_fits : position_of q'.phase ≤ q'.count
 
--- a number is answered, and the task goes to another phase with the entries that it has; or its transaction ends
-abbrev pub goes_to : Place → Phase → ℕ → Moved
-goes_to q p n = record { place = moved q p; answer = plain n }
-
-abbrev pub ends_by : Outcome → Moved
-ends_by o = goes_to ended Idle (end_number o)
+-- a number alone is answered
+abbrev pub plainly : Place → ℕ → Moved
+plainly q n = record { place = q; answer = plain n }
 
 -- the deciding step, of a task whose place is q
 pub record Decided (q : Place) (g : Goal) (r : Moved) : Type 0 where

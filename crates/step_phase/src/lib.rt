@@ -3,10 +3,11 @@
 #![tactic(auto)]
 
 ghost use Rattle.std.specs.Prelude.{◌≡◌};
+ghost use Rattle.memory.specs.Pieces.{ended};
 ghost use Rattle.memory.specs.Step.{end_number};
-ghost use Rattle.step_phase.specs.Contract.{Ready, Stepped, Decided, goes_to, ends_by};
+ghost use Rattle.step_phase.specs.Contract.{Ready, Stepped, Decided, plainly};
 
-use memory::{Answer, EntryRow, Goal, Outcome, Phase, Place, PlaceRow, Sizes};
+use memory::{Answer, EntryRow, Goal, Outcome, Phase, Place, PlaceRow, Refusal, Sizes};
 
 // A task's place after a step, and what the step answers.
 #[derive(Clone, Copy)]
@@ -15,13 +16,15 @@ pub struct Moved {
     pub answer: Answer,
 }
 
-// The task goes to another phase with the entries that it has.
-fn goes(place: Place, phase: Phase, number: u32) -> Moved
-    ensures { result ≡ goes_to place phase number }
-{
-    Moved {
-        place: table_rows::moved(place, phase),
-        answer: memory::without_value(number),
+impl Moved {
+    // A step that answers a number alone. What a step answers stays a number: the C interface (§9).
+    fn plain(place: Place, number: u32) -> Moved
+        ensures { result ≡ plainly place number }
+    {
+        Moved {
+            place,
+            answer: Answer::plain(number),
+        }
     }
 }
 
@@ -37,15 +40,10 @@ fn end_number(outcome: Outcome) -> u32
 }
 
 // §7.14: the step that ends a transaction. The task has no entries then, and is off every list.
-fn end(place: Place, outcome: Outcome) -> Moved
-    ensures { result ≡ ends_by outcome }
+fn end(outcome: Outcome) -> Moved
+    ensures { result ≡ plainly ended (end_number outcome) }
 {
-    let gone = table_rows::placed(place, Phase::Idle, 0);
-    goes(
-        table_rows::counted(gone, 0),
-        Phase::Idle,
-        end_number(outcome),
-    )
+    Moved::plain(Place::ended(), end_number(outcome))
 }
 
 // §7.9: the deciding step.
@@ -53,12 +51,13 @@ fn decide(place: Place, goal: Goal) -> Moved
     ensures { Decided place goal result }
 {
     match goal {
-        Goal::Commit => goes(place, Phase::Writing(0), 0),
-        Goal::Sleep => goes(place, Phase::Asleep, 20),
+        Goal::Commit => Moved::plain(place.moved(Phase::Writing(0)), 0),
+        Goal::Sleep => Moved::plain(place.moved(Phase::Asleep), 20),
     }
 }
 
 // The step, with the place by value.
+// The tables stay apart: the functions that it calls ask for those alone that they use, and a struct would be taken apart for each.
 pub fn advance(
     place: Place,
     sizes: Sizes,
@@ -72,37 +71,26 @@ pub fn advance(
     ensures { Stepped place sizes words.old records.old places.old entries.now task result.place words.new records.new places.new result.answer }
 {
     let count = place.count;
-    let phase = place.phase;
-    match phase {
-        Phase::Taking(goal, i) => {
-            if i < count {
-                let next = step_take::take(place, goal, i, sizes, records, places, entries, task);
-                Moved {
-                    place: next,
-                    answer: memory::without_value(0),
-                }
-            } else {
-                decide(place, goal)
-            }
+    match place.phase {
+        Phase::Taking(goal, i) if i < count => {
+            let next = step_take::take(place, goal, i, sizes, records, places, entries, task);
+            Moved::plain(next, 0)
         }
-        Phase::Writing(i) => {
-            if i < count {
-                let next = step_entry::write(i, sizes, words, entries, task);
-                goes(place, next, 0)
-            } else {
-                goes(place, Phase::Releasing(Outcome::Committed, 0), 0)
-            }
+        Phase::Taking(goal, _) => decide(place, goal),
+        Phase::Writing(i) if i < count => {
+            let next = step_entry::write(i, sizes, words, entries, task);
+            Moved::plain(place.moved(next), 0)
         }
-        Phase::Releasing(outcome, i) => {
-            if i < count {
-                let next = step_entry::release(outcome, i, sizes, records, entries, task);
-                goes(place, next, 0)
-            } else {
-                end(place, outcome)
-            }
+        Phase::Writing(_) => Moved::plain(place.moved(Phase::Releasing(Outcome::Committed, 0)), 0),
+        Phase::Releasing(outcome, i) if i < count => {
+            let next = step_entry::release(outcome, i, sizes, records, entries, task);
+            Moved::plain(place.moved(next), 0)
         }
-        Phase::Asleep => goes(place, phase, 20),
-        Phase::Open => goes(place, phase, memory::too_early(phase)),
-        Phase::Idle => goes(place, phase, memory::too_early(phase)),
+        Phase::Releasing(outcome, _) => end(outcome),
+        Phase::Asleep => Moved::plain(place, 20),
+        Phase::Open | Phase::Idle => Moved {
+            place,
+            answer: Refusal::TooEarly(place.phase).into(),
+        },
     }
 }

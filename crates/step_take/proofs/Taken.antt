@@ -52,7 +52,8 @@ module _ {z : Sizes} {m : Memory} {t i : ℕ} (x : Found z m t i) {q : Place} (o
   take_own u h k = rw own record { leaves = rw (holds x (Owner u) h, eq-eqb u t k, add-one); same_count = refl; near = omega arith }
 
   pub take_met : {places' : List (List ℕ)} {q' : Place} (u : ℕ) → sound z m ≡ true → t < z.tasks → q.phase ≡ Taking g i → x.the_held ≡ Owner u → u ≢ t
-      → Came q g i z m.places m.entries e x.the_record u q' places' → Leaves m (memory m.words m.records places' m.entries) t i q' (takes z m t g i)
+      → Came (record { place = q; goal = g; i = i; entry = e }) z m.places m.entries u q' places'
+      → Leaves m (memory m.words m.records places' m.entries) t i q' (takes z m t g i)
   unfolding take_step
   take_met u ok lt taking h k c =
       record {

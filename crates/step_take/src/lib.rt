@@ -5,6 +5,7 @@
 ghost use Rattle.step_take.specs.Contract.{MayTake, Took};
 
 use memory::{EntryRow, Goal, Held, Outcome, Phase, Place, PlaceRow, Sizes};
+use step_meet::Coming;
 
 // §7.4 to §7.8: a step in Taking, on entry i. What is answered is the task's place afterwards.
 pub fn take(
@@ -21,25 +22,23 @@ pub fn take(
     ensures { Took goal i sizes records.old places.old entries.now task result records.new places.new }
 {
     let entry = step_entry::entry_at(i, sizes, entries, task);
-    let at = table_rows::record_of(sizes, entry.address);
-    let next = i + 1;
-    let goes_on = table_rows::moved(place, Phase::Taking(goal, next));
-    match table_rows::held_of(records[at]) {
-        Held::Version(version) => {
-            if version == entry.old.version {
-                let mine = table_rows::owner_number(task);
-                records[at] = mine;
-                goes_on
-            } else {
-                table_rows::moved(place, Phase::Releasing(Outcome::Failed, 0))
-            }
+    let at = sizes.record_of(entry.address);
+    let goes_on = Phase::Taking(goal, i + 1);
+    match Held::from(records[at]) {
+        Held::Version(version) if version == entry.old.version => {
+            records[at] = Held::Owner(task).number();
+            place.moved(goes_on)
         }
+        Held::Version(_) => place.moved(Phase::Releasing(Outcome::Failed, 0)),
+        Held::Owner(owner) if owner == task => place.moved(goes_on),
         Held::Owner(owner) => {
-            if owner == task {
-                goes_on
-            } else {
-                step_meet::meet(place, goal, i, sizes, places, entries, entry, at, owner)
-            }
+            let coming = Coming {
+                place,
+                goal,
+                i,
+                entry,
+            };
+            step_meet::meet(coming, sizes, places, entries, owner)
         }
     }
 }

@@ -9,7 +9,7 @@ ghost use Rattle.memory.specs.Numbers.{replied};
 ghost use Rattle.memory.specs.Step.{step};
 ghost use Rattle.step_phase.specs.Contract.{Ready, Stepped};
 
-use memory::{Answer, EntryRow, Place, PlaceRow, Sizes};
+use memory::{Answer, EntryRow, Place, PlaceRow, Refusal, Sizes};
 use step_phase::Moved;
 
 // The step, with the place lent. What is handed back is the answer.
@@ -25,14 +25,14 @@ fn step_place(
     requires { Ready place.old sizes words.old records.old places.old entries.now task }
     ensures { Stepped place.old sizes words.old records.old places.old entries.now task place.new words.new records.new places.new result }
 {
-    let m = step_phase::advance(*place, sizes, words, records, places, entries, task);
-    *place = m.place;
-    m.answer
+    let moved = step_phase::advance(*place, sizes, words, records, places, entries, task);
+    *place = moved.place;
+    moved.answer
 }
 
 // Lends the place. Nothing else makes a reference to one, so that whoever calls this is covered by the borrow checker.
 fn step_value(
-    place: Place,
+    mut place: Place,
     sizes: Sizes,
     words: &mut [u32],
     records: &mut [u32],
@@ -43,14 +43,11 @@ fn step_value(
     requires { Ready place sizes words.old records.old places.old entries.now task }
     ensures { Stepped place sizes words.old records.old places.old entries.now task result.place words.new records.new places.new result.answer }
 {
-    let mut p = place;
-    let a = step_place(&mut p, sizes, words, records, places, entries, task);
-    Moved {
-        place: p,
-        answer: a,
-    }
+    let answer = step_place(&mut place, sizes, words, records, places, entries, task);
+    Moved { place, answer }
 }
 
+// Answers no Result, since 20 to 23 are no refusals, and one more is no plainer.
 // The step of a task, with the tables alone: its row is made a place, the place is stepped and stored back.
 pub fn step_sound(
     sizes: Sizes,
@@ -64,20 +61,10 @@ pub fn step_sound(
     ensures { replied result (memory words.new records.new places.new entries.now) ≡ step sizes (memory words.old records.old places.old entries.now) task }
 {
     if task >= sizes.tasks {
-        return memory::without_value(3);
+        return Refusal::NoTask.into();
     }
-    let row = places[task];
-    let m = step_value(
-        table_rows::place_of(row),
-        sizes,
-        words,
-        records,
-        places,
-        entries,
-        task,
-    );
-    let next = m.place;
-    let back = table_rows::row_of(next);
-    places[task] = back;
-    m.answer
+    let place = Place::from(places[task]);
+    let stepped = step_value(place, sizes, words, records, places, entries, task);
+    places[task] = stepped.place.row();
+    stepped.answer
 }

@@ -1,31 +1,24 @@
 -- Those of a set end, row by row; and that with those who end with a sleeper this is what the definition says (§7.17).
-use Prim.Native.Nat.{ℕ, ◌+◌, ◌<◌, ◌≤◌, ◌^◌}
-use mathlib.Core.Path.{◌≡◌, refl, sym, ap, ◌∙◌, subst, subst⁻¹}
+use Prim.Native.Nat.{ℕ, ◌<◌, ◌≤◌, ◌^◌}
+use mathlib.Core.Path.{◌≡◌, sym, ap, ◌∙◌, subst}
 use mathlib.Core.Logic.{⊎_elim}
 use mathlib.Core.List.{List, []}
-use mathlib.Core.Bool.{Bool, true, false, not, ◌&&◌, ◌||◌, true≢false}
+use mathlib.Core.Bool.{Bool, true, false, not, ◌&&◌, ◌||◌}
 use lib.Dec.{eqb}
-use lib.ListN.{length, get_or, set, length-set}
-use lib.Seq.{ext_get_or, get_or-set_same, get_or-set_other}
+use lib.ListN.{length, get_or}
+use lib.Seq.{ext_get_or}
 use native.Mathlib.Omega.{arith}
 use borrow.Author.Tests.{lt-ltb}
 use Rattle.memory.specs.declared.Sizes.{Sizes}
-use Rattle.memory.specs.declared.Phase.{Phase}
-use Rattle.memory.specs.Pieces.{Memory, memory, most_tasks, position_of, place, place_of, placed, row_of}
+use Rattle.memory.specs.Pieces.{Memory, memory, most_tasks, place, place_of, placed, row_of}
 use Rattle.memory.specs.Lists.{has, set_of, on_list, leads}
-use Rattle.memory.specs.Step.{fails, wakes, ending, ends_with, ended_with, end_all}
-use Rattle.memory.proofs.Tools.{both, same?, if_cases}
+use Rattle.memory.specs.Step.{ending, ends_with, ended_with, end_all}
+use Rattle.memory.proofs.Tools.{both}
 use Rattle.memory.proofs.Sets.{none_beyond, known_by}
 use Rattle.memory.proofs.Limits.{limit_most}
 use Rattle.memory.proofs.Facts.{tasks_most, places_length, in_places, count_most, position_n, joins_small}
 use Rattle.memory.proofs.Clashes.{end_all-words, end_all-records, end_all-entries, end_all-length, end_all_stays, end_all-ends}
 use Rattle.step_wake.specs.Contract.{Ended, MayEnd, AllEnd, EndWith, MayWake, Woke}
-
--- who ends goes no further in its entries
-pub ending_position : (p : Phase) → position_of (ending p) ≤ position_of p
-ending_position p =
-    if_cases (λ k. position_of k ≤ position_of p) (fails p) _ _ (λ f. omega arith) (λ f.
-    if_cases (λ k. position_of k ≤ position_of p) (wakes p) _ _ (λ w. omega arith) (λ w. omega arith))
 
 -- Row by row -------------------------------------------------------------------------------------------------------------------
 
@@ -34,32 +27,6 @@ pub record Ends (ends : ℕ) (places places' : List (List ℕ)) (k : ℕ) : Type
   pub long : length places' ≡ length places
   pub stays : (t : ℕ) → (t < k → has ends t ≡ false) → get_or places' t [] ≡ get_or places t []
   pub ended : (t : ℕ) → t < k → has ends t ≡ true → Ended (get_or places t []) ends (get_or places' t [])
-
-pub ends_none : (ends : ℕ) (places : List (List ℕ)) → Ends ends places places 0
-ends_none ends places = record { long = refl; stays = λ t f. refl; ended = λ t h. absurd (omega arith) }
-
-pub ends_all : (ends : ℕ) (places places' : List (List ℕ)) (k : ℕ) → Ends ends places places' k → k ≡ length places → AllEnd ends places places'
-ends_all ends places places' k E q =
-    record { long = E.long; stays = λ t c. E.stays t (λ h. c); ended = λ t h c. E.ended t (omega arith) c }
-
-module _ (ends : ℕ) (places places' : List (List ℕ)) (k : ℕ) (inside : k < length places) (E : Ends ends places places' k) where
-  pub ends_hit : (row : List ℕ) → has ends k ≡ true → Ended (get_or places' k []) ends row → Ends ends places (set places' k row) (k + 1)
-  ends_hit row c e = record {
-    long = length-set places' k row ∙ E.long;
-    stays = λ t f. get_or-set_other places' k t row [] (λ q. true≢false (sym c ∙ ap (has ends) (sym q) ∙ f (omega arith))) ∙ E.stays t (λ h. f (omega arith));
-    ended = λ t h d. ⊎_elim
-        (λ q. subst⁻¹ (λ (x : ℕ). Ended (get_or places x []) ends (get_or (set places' k row) x [])) q
-        (subst⁻¹ (λ (x : List ℕ). Ended (get_or places k []) ends x) (get_or-set_same places' k row [] (omega (arith, E.long)))
-        (subst (λ (x : List ℕ). Ended x ends row) (E.stays k (λ h. absurd (omega arith))) e)))
-        (λ q. subst⁻¹ (λ (x : List ℕ). Ended (get_or places t []) ends x) (get_or-set_other places' k t row [] q) (E.ended t (omega arith) d)) (same? t k);
-  }
-
-  pub ends-miss : has ends k ≡ false → Ends ends places places' (k + 1)
-  ends-miss c = record {
-    long = E.long;
-    stays = λ t f. E.stays t (λ h. f (omega arith));
-    ended = λ t h d. ⊎_elim (λ q. absurd (true≢false (sym d ∙ ap (has ends) q ∙ c))) (λ q. E.ended t (omega arith) d) (same? t k);
-  }
 
 -- With a sleeper ---------------------------------------------------------------------------------------------------------------
 

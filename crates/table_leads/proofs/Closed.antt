@@ -2,14 +2,15 @@
 use Rattle.std.specs.Prelude.{if◌then◌else◌}
 use Prim.Native.Nat.{ℕ, suc, ◌<◌, ◌≤◌}
 use mathlib.Core.Path.{◌≡◌, refl, sym, ap, ◌∙◌}
-use mathlib.Core.List.{List}
+use mathlib.Core.List.{List, ◌++◌}
 use mathlib.Core.Bool.{Bool, true, false, ◌&&◌, ◌||◌}
 use lib.Bits.{bit_or}
-use lib.ListN.{length, get_or}
+use lib.ListN.{length, get_or, take, drop, length-append, length-drop, get_or-append}
+use lib.Seq.{length-take-le}
 use native.Mathlib.Omega.{arith}
 use Rattle.memory.specs.Lists.{has, leads}
 use Rattle.memory.proofs.Leads.{leads_below}
-use Rattle.task_sets.proofs.Bits.{has_or}
+use Rattle.memory.proofs.Bits.{has_or}
 use Rattle.table_leads.specs.Contract.{joined_in, through, Through, Filled, Ways}
 
 -- by a task's own set
@@ -53,12 +54,16 @@ closed_next n sets₀ sets sets' k h C T = record {
       ∙ ap (λ (x : Bool). leads (told sets₀) k a b || (leads (told sets₀) k a k && x)) (C.led k b i);
 }
 
--- filled, and then closed
-pub ways_by : (places : List (List ℕ)) (sets sets₁ sets₂ : List ℕ) → length places ≤ length sets → Filled places sets sets₁ → length sets₂ ≡ length sets₁
-    → ((a b : ℕ) → b < length places → has (get_or sets₂ b 0) a ≡ leads (told sets₁) (length places) a b) → Ways places sets sets₂
-ways_by places sets sets₁ sets₂ h F l C = record {
-  long = l ∙ F.long;
-  each = λ a b i.
-      C a b i
-      ∙ leads_below (told sets₁) (joined_in places) (length places) (λ x y j. ap (λ (s : ℕ). has s x) (F.each y j)) (length places) (omega arith) a b i;
-}
+-- filled, and then closed, with what stands behind the tasks' own
+pub ways_by : (places : List (List ℕ)) (sets sets₁ sets₂ : List ℕ) → let n = length places in n ≤ length sets → Filled places (take n sets) sets₁ → length sets₂ ≡ length sets₁
+    → ((a b : ℕ) → b < length sets₁ → has (get_or sets₂ b 0) a ≡ leads (told sets₁) (length sets₁) a b) → Ways places sets (sets₂ ++ drop n sets)
+ways_by places sets sets₁ sets₂ h F l C =
+    let n = length places in
+    let q : length sets₁ ≡ n = F.long ∙ length-take-le n sets h in
+    record {
+      long = omega (arith, length-append sets₂ (drop n sets), length-drop n sets);
+      each = λ a b i.
+          ap (λ (s : ℕ). has s a) (get_or-append sets₂ (drop n sets) 0 b (omega arith))
+          ∙ (rw q at C a b (omega arith))
+          ∙ leads_below (told sets₁) (joined_in places) n (λ x y j. ap (λ (s : ℕ). has s x) (F.each y j)) n (omega arith) a b i;
+    }

@@ -9,94 +9,58 @@ ghost use Rattle.memory.specs.Sound.{all_below, may_join, lists_ok};
 ghost use Rattle.table_leads.specs.Contract.{joined_in};
 ghost use Rattle.table_lists.specs.Contract.{Sleepers, alone, inside, set_fits};
 
-use memory::{Goal, Phase, PlaceRow, Sizes};
+use memory::{Goal, Phase, Place, PlaceRow, Sizes, TaskSet};
 
 // Whether a task in this phase may be on a list.
 fn may_join(phase: Phase) -> bool
     ensures { result ≡ may_join phase }
 {
-    match phase {
-        Phase::Taking(goal, _) => match goal {
-            Goal::Sleep => true,
-            Goal::Commit => false,
-        },
-        Phase::Asleep => true,
-        Phase::Releasing(_, _) => true,
-        Phase::Idle => false,
-        Phase::Open => false,
-        Phase::Writing(_) => false,
-    }
+    matches!(
+        phase,
+        Phase::Taking(Goal::Sleep, _) | Phase::Asleep | Phase::Releasing(_, _)
+    )
 }
 
-// Whether nobody is on a list, as on most boards. Those who are are counted and the loop goes to its end, so that the compiler takes
-// many rows at a time.
+// Whether nobody is on a list, as on most boards. It goes to the end of the table, so that the compiler takes many rows at a time.
 fn nobody_joins(places: &[PlaceRow]) -> bool
-    requires { length places.now ≤ most_tasks }
     ensures { result ≡ all_below (length places.now) (alone places.now) }
 {
-    let mut joined: u32 = 0;
-    let mut t = 0;
-    while t < places.len() {
-        if places[t][3] != 0 {
-            joined += 1;
-        }
-        t += 1;
-    }
-    joined == 0
+    places.iter().fold(true, |alone, row| alone & (row[3] == 0))
 }
 
 // The set of those who sleep.
-fn sleepers(places: &[PlaceRow]) -> u32
+fn sleepers(places: &[PlaceRow]) -> TaskSet
     requires { length places.now ≤ most_tasks }
     ensures { Sleepers places.now (length places.now) result }
 {
-    let mut set = 0;
-    let mut t = 0;
-    while t < places.len() {
-        let place = table_rows::place_of(places[t]);
-        let phase = place.phase;
-        if table_rows::is_asleep(phase) {
-            set = task_sets::with(set, t);
+    let mut set = TaskSet::none();
+    for (t, row) in places.iter().enumerate() {
+        if Place::from(*row).phase.is_asleep() {
+            set = set.with(t);
         }
-        t += 1;
     }
     set
 }
 
 // Whether all of a set are in another.
-fn is_inside(set: u32, others: u32) -> bool
+fn is_inside(set: TaskSet, others: TaskSet) -> bool
     ensures { result ≡ inside set others }
 {
-    task_sets::without(set, others) == 0
+    set.without(others).is_none()
 }
 
 // Whether a task may have joined those of its set: all of them sleep, and it may be on a list.
-fn set_fits(row: PlaceRow, asleep: u32) -> bool
+fn set_fits(row: PlaceRow, asleep: TaskSet) -> bool
     ensures { result ≡ set_fits asleep (place_of row) }
 {
-    let joins = row[3];
-    if joins == 0 {
-        return true;
-    }
-    if !is_inside(joins, asleep) {
-        return false;
-    }
-    let place = table_rows::place_of(row);
-    let phase = place.phase;
-    may_join(phase)
+    let joins = TaskSet::from(row[3]);
+    joins.is_none() || is_inside(joins, asleep) && may_join(Place::from(row).phase)
 }
 
-fn sets_fit(places: &[PlaceRow], asleep: u32) -> bool
+fn sets_fit(places: &[PlaceRow], asleep: TaskSet) -> bool
     ensures { result ≡ all_below (length places.now) (λ t. set_fits asleep (place_of (get_or places.now t []))) }
 {
-    let mut t = 0;
-    while t < places.len() {
-        if !set_fits(places[t], asleep) {
-            return false;
-        }
-        t += 1;
-    }
-    true
+    places.iter().all(|row| set_fits(*row, asleep))
 }
 
 // Whether no way leads from a task's list back to the task.
@@ -104,14 +68,13 @@ fn no_way_back(places: &[PlaceRow]) -> bool
     requires { length places.now ≤ most_tasks }
     ensures { result ≡ all_below (length places.now) (λ t. not (leads (joined_in places.now) (length places.now) t t)) }
 {
-    let mut ways = [0u32; memory::MOST_TASKS];
+    let mut ways = [TaskSet::none(); memory::MOST_TASKS];
     table_leads::ways(places, &mut ways);
-    let mut t = 0;
-    while t < places.len() {
-        if task_sets::has(ways[t], t) {
+    // Stays a loop: with `all` over sets, which have a model, the proof did not close.
+    for (t, way) in ways[..places.len()].iter().enumerate() {
+        if way.has(t) {
             return false;
         }
-        t += 1;
     }
     true
 }

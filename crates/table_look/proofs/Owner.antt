@@ -1,14 +1,16 @@
 -- What the owner of a record shows at an address of that record, and that it has what is needed to show it.
-use Prim.Native.Nat.{ℕ, ◌-◌, ◌%◌, ◌<◌, ◌≤◌}
-use mathlib.Core.Path.{◌≡◌, ap, sym, ◌∙◌}
-use mathlib.Core.List.{List, [], map}
+use Prim.Native.Nat.{ℕ, ◌+◌, ◌%◌, ◌<◌, ◌≤◌}
+use mathlib.Core.Path.{◌≡◌, ap, ◌∙◌}
+use mathlib.Core.List.{List, map}
 use mathlib.Core.Bool.{Bool, true}
 use lib.Dec.{eqb}
-use lib.ListN.{length, get_or, take, drop, length-drop}
-use lib.Seq.{take_all}
+use lib.ListN.{length, get_or, take, drop, length-drop, length-map}
+use lib.Seq.{length-take-le}
 use native.Mathlib.Nat.{mod-lt}
 use native.Mathlib.Omega.{arith}
 use borrow.Author.Tests.{eq-eqb, lt-ltb, le-ltb}
+use Rattle.std.specs.Prelude.{Option, Some, None}
+use Rattle.std.specs.Option.{IsSome}
 use Rattle.memory.specs.declared.Sizes.{Sizes}
 use Rattle.memory.specs.declared.Seen.{Seen}
 use Rattle.memory.specs.declared.Place.{Place}
@@ -21,33 +23,36 @@ use Rattle.memory.proofs.Tools.{in_get_or}
 use Rattle.memory.proofs.Find.{index-some}
 use Rattle.memory.proofs.Stores.{run_length, run_at}
 use Rattle.memory.proofs.Facts.{some_record, run_fits, owner_task, owner_entry}
-use Rattle.table_search.proofs.Search.{entries-length, entry_at}
+use Rattle.table_search.specs.Contract.{found}
+use Rattle.table_search.proofs.Found.{finds, when_some, when_none}
 
--- a table from a place on
-pub from_on : {A : Type 0} (l : List A) (s : ℕ) → take (length l - s) (drop s l) ≡ drop s l
-from_on l s = take_all (length l - s) (drop s l) (omega (arith, length-drop s l))
-
-module _ (rows : List (List ℕ)) (n : ℕ) (fits : n ≤ length rows) (k : ℕ) (done : Bool) (a word : ℕ) where
+module _ (rows : List (List ℕ)) (k : ℕ) (done : Bool) (a word : ℕ) where
   abbrev es : List Entry
-  es = map entry_of (take n rows)
+  es = map entry_of rows
 
-  pub with_entry : (i : ℕ) → i ≡ index_of a es → i < n → shows done (entry_of (get_or rows i [])) ≡ owned_at k done es a word
+  pub with_entry : (e : Entry) → found (index_of a es) es ≡ Some e → shows done e ≡ owned_at k done es a word
   unfolding owned_at
-  with_entry i q h = sym (rw (← q, entries-length rows n fits, lt-ltb i n h, entry_at rows n fits i h))
+  with_entry e q = let (h, s) = when_some _ _ e q in rw (s, lt-ltb (index_of a es) (length es) h)
 
-  pub without_entry : (i j : ℕ) → i ≡ index_of a es → n ≤ i → j ≡ index_on k (a % k) es → j < n
-      → (shown : Seen) → shown ≡ shows done (entry_of (get_or rows j [])) → record { value = word; version = shown.version } ≡ owned_at k done es a word
+  pub without_entry : found (index_of a es) es ≡ None → (e : Entry) → found (index_on k (a % k) es) es ≡ Some e
+      → (shown : Seen) → shown ≡ shows done e → record { value = word; version = shown.version } ≡ owned_at k done es a word
   unfolding owned_at
-  without_entry i j q h p l shown s =
-      sym (rw (← q, ← p, entries-length rows n fits, le-ltb i n h, entry_at rows n fits j l, ← s))
+  without_entry n e q shown s = rw (s, (when_some _ _ e q).1, le-ltb (index_of a es) (length es) (when_none _ _ n))
+
+-- a run with an entry on the record has one beside the address
+pub finds_beside : (rows : List (List ℕ)) (k a : ℕ) (r : Option Entry) → let es = map entry_of rows in index_on k (a % k) es < length rows
+    → r ≡ found (index_on k (a % k) es) es → IsSome r
+finds_beside rows k a r h q =
+    let es = map entry_of rows in
+    rw (q, finds (index_on k (a % k) es) es (omega (arith, h, length-map rows entry_of)))
 
 -- on a sound table
 module _ (z : Sizes) (m : Memory) (ok : sound z m ≡ true) (a t : ℕ) (owns : held m (a % z.records) ≡ Owner t) where
   pub task_below : t < z.tasks
   task_below = owner_task z m ok (a % z.records) t (mod-lt a (some_record z m ok)) owns
 
-  pub run_long : (place m t).count ≤ length (drop (run_start z t) m.entries)
-  run_long = omega (arith, run_fits z m ok t task_below, length-drop (run_start z t) m.entries)
+  pub run_inside : run_start z t + (place m t).count ≤ length m.entries
+  run_inside = run_fits z m ok t task_below
 
   -- it has an entry on the record
   pub on_record : index_on z.records (a % z.records) (run z m t (place m t).count) < (place m t).count
@@ -63,6 +68,10 @@ module _ (z : Sizes) (m : Memory) (ok : sound z m ≡ true) (a t : ℕ) (owns : 
         index-some (λ e. eqb (e.address % z.records) (a % z.records)) (run z m t n) _ (in_get_or (run z m t n) mine.0 blank (omega (arith, long, mine.1))) passes,
         long,
       )
+
+  -- so that a search of its run finds one
+  pub beside : index_on z.records (a % z.records) (run z m t (place m t).count) < length (take (place m t).count (drop (run_start z t) m.entries))
+  beside = omega (arith, on_record, run_inside, length-take-le (place m t).count (drop (run_start z t) m.entries), length-drop (run_start z t) m.entries)
 
   pub owner_shows : (done : Bool) (q : Place) → q ≡ place m t → done ≡ committed q.phase
       → owned_at z.records done (run z m t q.count) a (get_or m.words a 0) ≡ logical z m a

@@ -1,3 +1,2 @@
--- The laws of a filling, and what an opening answers in each case.
-pub mod Fill
+-- What an opening answers in each case.
 pub mod Opens

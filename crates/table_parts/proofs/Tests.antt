@@ -1,6 +1,12 @@
 -- Laws of tests: of two together, of a callee's answer, of every number below a count, and of a list after a store.
-use Rattle.std.proofs.Common.{◌≡◌, ℕ, zero, suc, ◌+◌, ◌<◌, ◌≤◌, Bool, true, false, ◌&&◌, ◌⊎◌, List, length, get_or, set, sym, refl, ◌∙◌, inl, inr, ⊎_elim, add-one, arith, get_or-set_other, get_or-set_same}
+use Rattle.std.proofs.Common.{◌≡◌, ℕ, zero, suc, ◌+◌, ◌<◌, ◌≤◌, Bool, true, false, ◌&&◌, ◌⊎◌, List, length, get_or, set, take, sym, refl, ap, ◌∙◌, inl, inr, ⊎_elim, add-one, arith, get_or-set_other, get_or-set_same}
 use mathlib.Core.Bool as bool
+use mathlib.Core.List.{[], ◌∷◌, ◌++◌}
+use lib.Seq.{take_all}
+use native.Mathlib.Numerals.{suc-eq-add-one}
+use Rattle.std.specs.List.{list_all, range_with_len}
+use Rattle.std.proofs.lemmas.List.Folds.{list_all_more, list_all-append}
+use Rattle.std.proofs.lemmas.List.FromFn.{length-range_with_len, get_or-range_with_len}
 use mathlib.Core.Bool.{and-true}
 use Rattle.memory.specs.Sound.{all_below}
 use Rattle.memory.proofs.Tools.{same?}
@@ -63,3 +69,23 @@ module _ (p : ℕ → Bool) (i : ℕ) where
   pub next_good : p i ≡ true → all_below (i + 1) p ≡ all_below i p
   unfolding all_below
   next_good h = rw (add-one, h) (and-true (all_below i p))
+
+-- a test of every element, and of every number of a range, is one of every number below a count
+module _ {A : Type 0} (q : A → Bool) (d : A) (xs : List A) where
+  below_front : (i : ℕ) → i ≤ length xs → list_all q (take i xs) ≡ all_below i (λ t. q (get_or xs t d))
+  unfolding all_below
+  below_front zero h = refl
+  below_front (suc i) h = rw (suc-eq-add-one i) (list_all_more q xs i d h) ∙ ap (λ (b : Bool). b && q (get_or xs i d)) (below_front i (omega arith))
+
+  pub below-list : list_all q xs ≡ all_below (length xs) (λ t. q (get_or xs t d))
+  below-list = sym (ap (list_all q) (take_all (length xs) xs (omega arith))) ∙ below_front (length xs) (omega arith)
+
+pub below-range : (q : ℕ → Bool) (n : ℕ) → list_all q (range_with_len 0 n) ≡ all_below n q
+below-range q n =
+    below-list q 0 (range_with_len 0 n)
+    ∙ ap (λ (k : ℕ). all_below k (λ t. q (get_or (range_with_len 0 n) t 0))) (length-range_with_len 0 n)
+    ∙ below_same _ q n (λ i h. ap q (get_or-range_with_len 0 n i 0 h ∙ (let z : 0 + i ≡ i = omega arith in z)))
+
+-- one element more, where the answer so far is taken along
+pub all_more : {A : Type 0} (q : A → Bool) (ys : List A) (y : A) {a b : Bool} → a ≡ list_all q ys → b ≡ (a && q y) → b ≡ list_all q (ys ++ y ∷ [])
+all_more q ys y h k = k ∙ ap (λ (d : Bool). d && q y) h ∙ ap (λ (d : Bool). list_all q ys && d) (sym (and-true (q y))) ∙ sym (list_all-append q ys (y ∷ []))

@@ -3,11 +3,12 @@
 #![tactic(auto)]
 
 ghost use Rattle.std.specs.Prelude.{◌≡◌, ◌%◌, ◌<◌, ◌≤◌, true};
-ghost use Rattle.memory.specs.Pieces.{memory, most_words, most_records, held_of, entry_of};
+ghost use Rattle.memory.specs.Lent.{lent};
+ghost use Rattle.memory.specs.Pieces.{most_words, most_records, held_of, entry_of};
 ghost use Rattle.memory.specs.Sound.{within, sizes_ok, lengths_ok, entry_ok};
 ghost use Rattle.table_parts.specs.Parts.{agree, record_ok, inverse};
 
-use memory::{EntryRow, PlaceRow, Sizes};
+use memory::{Board, EntryRow, Sizes};
 
 // From the low number to the high one, both included.
 pub fn in_range(low: usize, high: usize, n: usize) -> bool
@@ -26,20 +27,21 @@ pub fn sizes_ok(sizes: Sizes) -> bool
 }
 
 // §10.2: the lent lengths.
-pub fn lengths_ok(
-    sizes: Sizes,
-    words: &[u32],
-    records: &[u32],
-    places: &[PlaceRow],
-    entries: &[EntryRow],
-) -> bool
-    requires { sizes_ok sizes ≡ true }
-    ensures { result ≡ lengths_ok sizes (memory words.now records.now places.now entries.now) }
+pub fn lengths_ok(board: Board) -> bool
+    requires { sizes_ok board.sizes ≡ true }
+    ensures { result ≡ lengths_ok board.entry.sizes (lent board.entry) }
 {
+    let Board {
+        sizes,
+        words,
+        records,
+        places,
+        entries,
+    } = board;
     words.len() == sizes.words
         && records.len() == sizes.records
         && places.len() == sizes.tasks
-        && entries.len() == memory::run_start(sizes, sizes.tasks)
+        && entries.len() == sizes.run_start(sizes.tasks)
 }
 
 // §10.5: an entry by itself.
@@ -59,7 +61,7 @@ pub fn entry_ok(sizes: Sizes, entry: EntryRow) -> bool
         return false;
     }
     // The same or the next: with both in their range the difference tells, and one test of it takes less time than two.
-    std::num::wrapping_sub_u32(entry[4], entry[3]) <= 1
+    entry[4].wrapping_sub(entry[3]) <= 1
 }
 
 // §10.6: two entries on one record.
@@ -90,19 +92,13 @@ pub fn record_of(sizes: Sizes, by: usize, entry: EntryRow) -> usize
     address - quotient * sizes.records
 }
 
-// The greater of two addresses.
-pub fn greater(one: u32, other: u32) -> u32
-    ensures { (one ≤ result) × (other ≤ result) }
-{
-    if one < other { other } else { one }
-}
-
 // §10.7, §10.8: what a record holds, where it is known whether its owner has an entry on it.
 pub fn record_ok(number: u32, owned: bool) -> bool
     ensures { result ≡ record_ok (held_of number) owned }
 {
     if number < memory::FIRST_OWNER {
-        return 1 <= number;
+        1 <= number
+    } else {
+        owned
     }
-    owned
 }

@@ -1,54 +1,41 @@
--- A search through the first n rows of a run, one at a time, for the first entry that passes a test.
-use Rattle.std.specs.Prelude.{if◌then◌else◌}
-use Prim.Native.Nat.{ℕ, suc, ◌+◌, ◌<◌, ◌≤◌}
-use mathlib.Core.Path.{◌≡◌, ap, sym, ◌∙◌}
-use mathlib.Core.List.{List, [], map}
+-- A search through a run for the first entry that passes a test.
+use Prim.Native.Nat.{ℕ}
+use Prim.Native.Nat.compare
+use mathlib.Core.Path.{◌≡◌, refl, ap, ◌∙◌}
+use mathlib.Core.List.{List, [], ◌∷◌, map}
 use mathlib.Core.Bool.{Bool, true, false}
-use lib.ListN.{length, get_or, take, drop, length-map, get_or-map}
-use lib.Seq.{drop-cons, get_or-take, length-take-le, drop-length}
-use native.Mathlib.Numerals.{add-one}
+use lib.ListN.{length}
 use native.Mathlib.Omega.{arith}
+use borrow.Author.Tests.{lt-ltb}
+use denote.Ref.{Bor}
+use Rattle.std.specs.Prelude.{Option, Some, None}
+use Rattle.std.specs.List.{find}
+use Rattle.std.specs.Option.{option_map}
 use Rattle.memory.specs.declared.Entry.{Entry}
 use Rattle.memory.specs.Pieces.{entry_of}
-use Rattle.memory.specs.Logical.{index, blank}
+use Rattle.memory.specs.Logical.{index}
+use Rattle.table_search.specs.Contract.{found}
 
--- the entries that the first n rows of a run hold
-module _ (run : List (List ℕ)) (n : ℕ) (fits : n ≤ length run) where
-  pub entries-length : length (map entry_of (take n run)) ≡ n
-  entries-length = length-map (take n run) entry_of ∙ length-take-le n run fits
+module _ (p : Entry → Bool) where
+  -- the first row whose entry passes holds the first entry that passes
+  abbrev Same : List (List ℕ) → Type 0
+  Same rows = option_map entry_of (find (λ row. p (entry_of row)) rows) ≡ found (index p (map entry_of rows)) (map entry_of rows)
 
-  pub entry_at : (i : ℕ) → i < n → get_or (map entry_of (take n run)) i blank ≡ entry_of (get_or run i [])
-  unfolding blank entry_of
-  entry_at i h = get_or-map entry_of (take n run) i [] ∙ ap entry_of (get_or-take n run i [] h)
+  one_more : (row : List ℕ) (rows : List (List ℕ)) (b : Bool) → p (entry_of row) ≡ b → Same rows → Same (row ∷ rows)
+  unfolding index found
+  one_more row rows true e h = rw (e, lt-ltb 0 (length (entry_of row ∷ map entry_of rows)) (omega arith)) refl
+  one_more row rows false e h = rw (e, compare.suc-suc) h
 
-module _ (p : Entry → Bool) (run : List (List ℕ)) (n : ℕ) where
-  abbrev es : List Entry
-  es = map entry_of (take n run)
+  same : (rows : List (List ℕ)) → Same rows
+  unfolding index found
+  same [] = refl
+  same (row ∷ rows) = one_more row rows (p (entry_of row)) refl (same rows)
 
-  -- none of the first i passes, so that the search goes on from there
-  abbrev pub Passed : ℕ → Type 0
-  Passed i = (i ≤ n) × (index p es ≡ i + index p (drop i es))
+  read : (row : Option (Bor (List ℕ))) → option_map (λ row. entry_of row.now) row ≡ option_map entry_of (option_map (λ row. row.now) row)
+  read None = refl
+  read (Some row) = refl
 
-  pub begins : Passed 0
-  begins = (omega arith, omega arith)
-
-  module _ (fits : n ≤ length run) (i : ℕ) (so_far : Passed i) where
-    looks : i < n → index p es ≡ i + (if p (entry_of (get_or run i [])) then 0 else suc (index p (drop (suc i) es)))
-    unfolding index
-    looks h =
-        so_far.1
-        ∙ ap (λ (l : List Entry). i + index p l) (drop-cons es i blank (omega (arith, entries-length run n fits)))
-        ∙ ap (λ (e : Entry). i + (if p e then 0 else suc (index p (drop (suc i) es)))) (entry_at run n fits i h)
-
-    pub found : i < n → p (entry_of (get_or run i [])) ≡ true → i ≡ index p es
-    found h e = sym (looks h ∙ rw e (omega arith))
-
-    pub goes_on : i < n → p (entry_of (get_or run i [])) ≡ false → Passed (i + 1)
-    goes_on h e = (omega arith, looks h ∙ rw (e, add-one) (omega arith))
-
-    pub ends : n ≤ i → i ≡ index p es
-    unfolding index
-    ends h =
-        let all : i ≡ length es = omega (arith, entries-length run n fits) in
-        let rest = ap (λ (j : ℕ). index p (drop j es)) all ∙ ap (index p) (drop-length es) in
-        omega (arith, so_far.1, rest)
+  -- a row that is found in the run, and then read, is the entry
+  pub first_read : (rows : List (List ℕ)) (row : Option (Bor (List ℕ))) → option_map (λ row. row.now) row ≡ find (λ row. p (entry_of row)) rows
+      → option_map (λ row. entry_of row.now) row ≡ found (index p (map entry_of rows)) (map entry_of rows)
+  first_read rows row h = read row ∙ ap (option_map entry_of) h ∙ same rows

@@ -1,39 +1,36 @@
-// The search for an entry in a run: by its address, or by its record.
+// The entries of a task, and the search for one among them: by its address, or by its record.
 
 #![tactic(auto)]
 
-ghost use Rattle.std.specs.Prelude.{◌≡◌, map, ◌<◌, ◌≤◌, length, take};
-ghost use Rattle.memory.specs.Pieces.{entry_of};
+ghost use Rattle.std.specs.Prelude.{◌≡◌, ◌+◌, map, ◌<◌, ◌≤◌, length, take, drop};
+ghost use Rattle.memory.specs.Pieces.{entry_of, most_tasks, run_start};
 ghost use Rattle.memory.specs.Logical.{index_of, index_on};
+ghost use Rattle.table_search.specs.Contract.{found};
 
-use memory::EntryRow;
+use memory::{Entry, EntryRow, Sizes};
 
-// Where the entry for an address stands among the first n of a run; n if there is none.
-pub fn index_of(run: &[EntryRow], n: usize, address: u32) -> usize
-    requires { n ≤ length run.now }
-    ensures { result ≡ index_of address (map entry_of (take n run.now)) }
+// §3.7: as many rows of a task's run as its place says.
+pub fn run_of(sizes: Sizes, entries: &[EntryRow], task: usize, count: usize) -> &[EntryRow]
+    requires { (task ≤ most_tasks) × (run_start sizes task + count ≤ length entries.now) }
+    ensures { result.now ≡ take count (drop (run_start sizes task) entries.now) }
 {
-    let mut at = 0;
-    while at < n {
-        if run[at][0] == address {
-            return at;
-        }
-        at += 1;
-    }
-    at
+    let start = sizes.run_start(task);
+    &entries[start..start + count]
 }
 
-// The same for the first entry on a record.
-pub fn index_on(run: &[EntryRow], n: usize, records: u32, record: u32) -> usize
-    requires { (n ≤ length run.now) × (0 < records) }
-    ensures { result ≡ index_on records «record» (map entry_of (take n run.now)) }
+// The first entry for an address. It and the next stay two: they are two lines each, and their laws are of two definitions.
+pub fn find_address(run: &[EntryRow], address: u32) -> Option<Entry>
+    ensures { result ≡ found (index_of address (map entry_of run.now)) (map entry_of run.now) }
 {
-    let mut on = 0;
-    while on < n {
-        if run[on][0] % records == record {
-            return on;
-        }
-        on += 1;
-    }
-    on
+    let row = run.iter().find(|row| row[0] == address);
+    row.map(|row| Entry::from(*row))
+}
+
+// The first entry on a record.
+pub fn find_record(run: &[EntryRow], records: u32, record: u32) -> Option<Entry>
+    requires { 0 < records }
+    ensures { result ≡ found (index_on records «record» (map entry_of run.now)) (map entry_of run.now) }
+{
+    let row = run.iter().find(|row| row[0] % records == record);
+    row.map(|row| Entry::from(*row))
 }

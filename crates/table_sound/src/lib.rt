@@ -2,50 +2,71 @@
 
 #![tactic(auto)]
 
-ghost use Rattle.std.specs.Prelude.{◌≡◌, []};
-ghost use Rattle.memory.specs.Pieces.{memory};
+ghost use Rattle.std.specs.Prelude.{◌≡◌, ◌≤◌};
+ghost use Rattle.std.specs.Option.{is_some, IfSome};
+ghost use Rattle.memory.specs.Lent.{lent};
+ghost use Rattle.memory.specs.Pieces.{most_records};
 ghost use Rattle.memory.specs.Sound.{sound};
+ghost use Rattle.table_sound.specs.Contract.{but_words};
 ghost use Rattle.table_walk.specs.Walk.{Fit, tables_ok};
 
-use memory::{EntryRow, PlaceRow, Sizes};
+use memory::{Board, SoundBoard};
 
 // How many records a small and a middling board have at most, for the room that the walk takes.
 const FEW_RECORDS: usize = 64;
 
 const SOME_RECORDS: usize = 256;
 
-// The walk with room for `met` and `owned`, in this order: the fewer records, the less there is to clear.
-fn room_ok(sizes: Sizes, records: &[u32], places: &[PlaceRow], entries: &[EntryRow]) -> bool
-    requires { Fit sizes (memory [] records.now places.now entries.now) }
-    ensures { result ≡ tables_ok sizes (memory [] records.now places.now entries.now) }
+// The walk with room for N records: `met`, and then `owned`. It reads all but the words.
+fn walk_in<const N: usize>(board: Board) -> bool
+    requires { Fit board.sizes (but_words board) × (board.sizes.records ≤ N) × (N ≤ most_records) }
+    ensures { result ≡ tables_ok board.entry.sizes (but_words board.entry) }
 {
-    if sizes.records <= FEW_RECORDS {
-        let mut last = [0u16; FEW_RECORDS];
-        let mut own = [false; FEW_RECORDS];
-        return table_walk::tables_ok(sizes, records, places, entries, &mut last, &mut own);
-    }
-    if sizes.records <= SOME_RECORDS {
-        let mut last = [0u16; SOME_RECORDS];
-        let mut own = [false; SOME_RECORDS];
-        return table_walk::tables_ok(sizes, records, places, entries, &mut last, &mut own);
-    }
-    let mut last = [0u16; memory::MOST_RECORDS];
-    let mut own = [false; memory::MOST_RECORDS];
-    table_walk::tables_ok(sizes, records, places, entries, &mut last, &mut own)
+    let Board {
+        sizes,
+        records,
+        places,
+        entries,
+        ..
+    } = board;
+    let mut met = [0u16; N];
+    let mut owned = [false; N];
+    table_walk::tables_ok(sizes, records, places, entries, &mut met, &mut owned)
 }
 
-// Whether the lent table is sound: the answer is the definition's, for any sizes and any four slices.
-pub fn is_sound(
-    sizes: Sizes,
-    words: &[u32],
-    records: &[u32],
-    places: &[PlaceRow],
-    entries: &[EntryRow],
-) -> bool
-    ensures { result ≡ sound sizes (memory words.now records.now places.now entries.now) }
+// The walk in room for as few records as there are on a small, a middling or a large board: the fewer, the less there is to clear.
+fn room_ok(board: Board) -> bool
+    requires { Fit board.sizes (but_words board) }
+    ensures { result ≡ tables_ok board.entry.sizes (but_words board.entry) }
 {
-    table_parts::sizes_ok(sizes)
-        && table_parts::lengths_ok(sizes, words, records, places, entries)
-        && room_ok(sizes, records, places, entries)
-        && table_lists::lists_ok(sizes, places)
+    let records = board.sizes.records;
+    if records <= FEW_RECORDS {
+        walk_in::<FEW_RECORDS>(board)
+    } else if records <= SOME_RECORDS {
+        walk_in::<SOME_RECORDS>(board)
+    } else {
+        walk_in::<{ memory::MOST_RECORDS }>(board)
+    }
+}
+
+// Whether the tables of a board are sound: the answer is the definition's, for any sizes and any four slices.
+pub fn is_sound(board: Board) -> bool
+    ensures { result ≡ sound board.entry.sizes (lent board.entry) }
+{
+    table_parts::sizes_ok(board.sizes)
+        && table_parts::lengths_ok(board)
+        && room_ok(board)
+        && table_lists::lists_ok(board.sizes, board.places)
+}
+
+// The board as one whose tables are sound, if they are.
+pub fn checked(board: Board) -> Option<SoundBoard>
+    ensures sound { is_some result ≡ sound board.entry.sizes (lent board.entry) }
+    ensures same { IfSome result (λ checked. checked.board ≡ board.entry) }
+{
+    if is_sound(board) {
+        Some(SoundBoard { board })
+    } else {
+        None
+    }
 }

@@ -3,32 +3,28 @@
 #![tactic(auto)]
 
 ghost use Rattle.std.specs.Prelude.{◌≡◌, [], ◌≤◌, length};
-ghost use Rattle.memory.specs.Pieces.{memory, most_records};
+ghost use Rattle.memory.specs.Pieces.{memory};
 ghost use Rattle.table_walk.specs.Walk.{Fit, Room, tables_ok, records_ok};
 
 use memory::{EntryRow, PlaceRow, Sizes};
 
-// What every record holds. The faults are counted and the walk goes to its end, so that the compiler takes many records at a time.
+// What every record holds. It goes to the end of the table, so that the compiler takes many records at a time.
 fn records_ok(records: &[u32], owned: &[bool]) -> bool
-    requires { (length records.now ≤ length owned.now) × (length records.now ≤ most_records) }
+    requires { length records.now ≤ length owned.now }
     ensures { result ≡ records_ok records.now owned.now (length records.now) }
 {
-    let mut faults: u16 = 0;
-    let mut r: usize = 0;
-    while r < records.len() {
-        if !table_parts::record_ok(records[r], owned[r]) {
-            faults += 1;
-        }
-        r += 1;
-    }
-    faults == 0
+    records.iter().zip(owned).fold(
+        true,
+        |right, (number, owned)| right & table_parts::record_ok(*number, *owned),
+    )
 }
 
 // Each task's row and entries, and then the records. Three tables save work: `told` has the address of each entry of the task that
 // was passed; `met` has for each record the last entry on it of the last task with one, counted from that task's `base`, so that
 // only an entry on a record that its task has met is held against others: its versions against that one's, since all before it
 // agree, and its address against all; `owned` has the records whose owner was found to have an entry on them, so that no record is
-// searched for. What earlier tasks left in `met` is below `base`, and so is 0, for none. `top` is the greatest address of the entries
+// searched for. What earlier tasks left in `met` is below `base`, and so is 0, for none: it stays numbers, since one comparison tells
+// both from an entry of this task. `top` is the greatest address of the entries
 // that another one of the task has followed on their record: an address above it is that of no entry before it on its record, and so
 // of none, and no pair is tried.
 pub fn tables_ok(
@@ -46,6 +42,7 @@ pub fn tables_ok(
     // Larger limits end here first: an address is noted in 16 bits, and so is an entry with its task.
     let mut told = [0u16; memory::MOST_ENTRIES];
     let mut t: usize = 0;
+    // Stays a while loop, left by `break 'tasks` (document 01): behind it t tells whether it was left at a fault.
     'tasks: while t < sizes.tasks {
         let place = places[t];
         if !table_places::place_ok(sizes, place) {
@@ -53,12 +50,11 @@ pub fn tables_ok(
         }
         let n = place[0] as usize;
         let from = table_places::owns_from(sizes, place);
-        let base = memory::run_start(sizes, t + 1);
-        let start = memory::run_start(sizes, t);
+        let base = sizes.run_start(t + 1);
+        let start = sizes.run_start(t);
         let run = &entries[start..];
         let mut top: u32 = 0;
-        let mut i: usize = 0;
-        'entries: while i < n {
+        'entries: for i in 0..n {
             // From here on a fault is that of entry i of task t: what tells the entry at fault goes with these breaks.
             let entry = run[i];
             if !table_parts::entry_ok(sizes, entry) {
@@ -73,17 +69,15 @@ pub fn tables_ok(
             }
             top = found.top;
             let until = found.until;
-            let mut j: usize = 0;
-            'pairs: while j < until {
+            // Stays a loop over pairs, left at the first fault (document 01).
+            'pairs: for j in 0..until {
                 if told[j] == address {
                     break 'tasks;
                 }
-                j += 1;
             }
             told[i] = address;
             met[record] = (base + i) as u16;
             table_pairs::mark_owned(records, owned, record, t, from, i);
-            i += 1;
         }
         t += 1;
     }

@@ -4,6 +4,7 @@ use mathlib.Core.Path.{◌≡◌, refl, ap, ◌∙◌}
 use mathlib.Core.List.{List, [], ◌++◌, map, append-nil}
 use lib.ListN.{length, get_or, set, take, drop, take-append-drop, length-drop}
 use lib.Seq.{get_or-set_other, get_or-drop, take-set-le, drop-set-add, drop-length, take_all}
+use Rattle.std.proofs.lemmas.List.{set-append_left, get_or_append_left}
 use borrow.Rule.Slice.PartMut.{put_mid, Post-is, mid_len, set_mid_at}
 use native.Mathlib.Numerals.{add-one}
 use native.Mathlib.Omega.{arith}
@@ -23,13 +24,14 @@ module _ (f : Entry → Entry) (l : List (List ℕ)) where
   rewritten_rest zero j h = refl
   rewritten_rest (suc k) j h = get_or-set_other (rewritten f l k) k j _ [] (λ e. omega arith) ∙ rewritten_rest k j (omega arith)
 
-  module _ (now : List (List ℕ)) (k : ℕ) (so_far : now ≡ rewritten f l k) where
+  -- where the first rows are lent and those after them stay
+  module _ (now rest : List (List ℕ)) (k : ℕ) (in_now : k < length now) (so_far : now ++ rest ≡ rewritten f l k) where
     pub next_row : get_or now k [] ≡ get_or l k []
-    next_row = ap (λ (r : List (List ℕ)). get_or r k []) so_far ∙ rewritten_rest k k (omega arith)
+    next_row = cc (get_or_append_left now rest [] k in_now, rewritten_rest k k (omega arith))
 
-    pub next_more : (e : Entry) → e ≡ f (entry_of (get_or now k [])) → set now k (row_of_entry e) ≡ rewritten f l (k + 1)
+    pub next_more : (e : Entry) → e ≡ f (entry_of (get_or now k [])) → set now k (row_of_entry e) ++ rest ≡ rewritten f l (k + 1)
     unfolding rewritten
-    next_more e q = rw add-one (cc next_row)
+    next_more e q = rw add-one (cc (next_row, set-append_left now rest k (row_of_entry e) in_now))
 
 -- The part of a table from s on: as it is lent, and back in its place ----------------------------------------------------------------
 

@@ -14,8 +14,7 @@ pub fn put_place(places: &mut [PlaceRow], task: usize, place: Place)
     requires { (task < length places.old) × (place.count < 4294967296) × (position_of place.phase < 4294967296) }
     ensures { places.new ≡ set places.old task (row_of place) }
 {
-    let row = table_rows::row_of(place);
-    places[task] = row;
+    places[task] = place.row();
 }
 
 // Entry i of a run, stored.
@@ -23,47 +22,34 @@ pub fn put_entry(run: &mut [EntryRow], i: usize, entry: Entry)
     requires { i < length run.old }
     ensures { run.new ≡ set run.old i (row_of_entry entry) }
 {
-    let row = table_rows::row_of_entry(entry);
-    run[i] = row;
-}
-
-// The one number where the test holds, else the other.
-fn pick(test: bool, this: u32, other: u32) -> u32
-    ensures { result ≡ (if test then this else other) }
-{
-    if test { this } else { other }
+    run[i] = EntryRow::from(entry);
 }
 
 // §6.11: an entry after a Write of a value at an address.
+#[tactic(auto, unfolding(memory::specs::Requests::written))]
 fn written(entry: Entry, records: u32, address: u32, value: u32) -> Entry
     requires { (0 < records) × (entry.old.version ≤ top_version) }
     ensures { result ≡ spec.written records address value entry }
 {
-    let old = entry.old;
-    let new = entry.new;
+    let Entry { old, new, .. } = entry;
     let own = entry.address == address;
     let beside = entry.address % records == address % records;
     let new = Seen {
-        value: pick(own, value, new.value),
-        version: pick(beside, old.version + 1, new.version),
+        value: if own { value } else { new.value },
+        version: if beside { old.version + 1 } else { new.version },
     };
-    Entry {
-        address: entry.address,
-        old,
-        new,
-    }
+    Entry { new, ..entry }
 }
 
-// The first n entries of a run, each as a Write leaves it.
+// The first n entries of a run, each as a Write leaves it. Run and number stay two values: the part that starts at a task's run is lent
+// (document 01).
 pub fn write_entries(run: &mut [EntryRow], n: usize, records: u32, address: u32, value: u32)
     requires { (n ≤ length run.old) × (0 < records) × ((i : ℕ) → i < n → (entry_of (get_or run.old i [])).old.version ≤ top_version) }
     ensures { run.new ≡ rewritten (spec.written records address value) run.old n }
 {
-    let mut i = 0;
-    while i < n {
-        let entry = table_rows::entry_in(run, i);
-        put_entry(run, i, written(entry, records, address, value));
-        i += 1;
+    for row in &mut run[..n] {
+        let entry = Entry::from(*row);
+        *row = EntryRow::from(written(entry, records, address, value));
     }
 }
 
@@ -79,7 +65,7 @@ pub fn write_run(
     requires { Within sizes entries.old task n × (address < most_words) }
     ensures { (ws : List ℕ) (rs : List ℕ) (ps : List (List ℕ)) → memory ws rs ps entries.new ≡ spec.rewrite sizes (memory ws rs ps entries.old) task (spec.written sizes.records address value) n }
 {
-    let start = memory::run_start(sizes, task);
+    let start = sizes.run_start(task);
     write_entries(
         &mut entries[start..],
         n,
@@ -90,6 +76,7 @@ pub fn write_run(
 }
 
 // One more entry of a task: stored in its run, and counted in its place.
+#[tactic(auto, using(memory::proofs::Limits::limit_most))]
 pub fn add_entry(
     sizes: Sizes,
     places: &mut [PlaceRow],
@@ -101,8 +88,8 @@ pub fn add_entry(
     requires { Addable sizes places.old entries.old task place entry }
     ensures { (ws : List ℕ) (rs : List ℕ) → memory ws rs places.new entries.new ≡ grown sizes (memory ws rs places.old entries.old) task place entry }
 {
-    let start = memory::run_start(sizes, task);
+    let start = sizes.run_start(task);
     let count = place.count;
     put_entry(&mut entries[start..], count, entry);
-    put_place(places, task, table_rows::counted(place, count + 1));
+    put_place(places, task, place.counted(count + 1));
 }

@@ -7,14 +7,5 @@ use memory::Looked;
 pub fn same_answer(got: Looked, wanted: Looked) -> bool
     ensures { result ≡ true → got ≡ wanted }
 {
-    let number = wanted.number;
-    let value = wanted.value;
-    let version = wanted.version;
-    if got.number != number {
-        return false;
-    }
-    if got.value != value {
-        return false;
-    }
-    got.version == version
+    got == wanted
 }

@@ -10,19 +10,17 @@ mod marks;
 mod play;
 mod telling;
 
-use program_input::read_full;
+use program_input::{read_full, room};
 use std::io;
 
 // One byte past the longest script.
-fn room_for_script() -> [u8; 16385] {
-    [0u8; 16385]
-}
+const ROOM: usize = 16385;
 
 fn main(rt: HostRuntime) -> io::Result<()> {
-    let mut script = room_for_script();
+    let mut script = room::<ROOM>();
     let length = read_full(&mut rt.reader(), &mut script)?;
-    if length == 16385 {
-        telling::say(&rt, b"The script is too long.\n")?;
+    if length == ROOM {
+        println!(rt; "The script is too long.")?;
     }
     play::whole(&rt, &script[..length])
 }

@@ -1,84 +1,30 @@
 // The two boards compared, address by address.
-use memory::{EntryRow, Looked, PlaceRow, Seen, Sizes};
-use std::num::wrapping_add_u32;
-use table_rows::wide;
+use memory::{Board, Looked, Seen};
+use try_calls::Tables;
 use try_calls::same::same_answer;
 use try_serial::asked::Lent;
-use try_serial::ledger;
+use try_serial::ledger::Ledger;
 
 // Is what an address has what the second machine's board has there?
-fn same_at(seen: Seen, m: &[u32], z: Sizes, a: usize) -> bool {
-    let got = Looked {
-        number: 0,
-        value: seen.value,
-        version: seen.version,
+fn same_at(seen: Seen, ledger: &Ledger, address: usize) -> bool {
+    same_answer(Looked::from(seen), ledger.at(address))
+}
+
+// How many addresses are the same on both: every one is looked up, in one pass over a table that is checked once. None where a part
+// that is lent is not there, or where the table is unsound.
+pub fn agreeing(own: Lent, tables: &Tables, ledger: &Ledger) -> Option<usize> {
+    let board = Board {
+        sizes: own.sizes,
+        words: tables.words.get(..own.words)?,
+        records: tables.records.get(..own.records)?,
+        places: tables.places.get(..own.places)?,
+        entries: tables.entries.get(..own.entries)?,
     };
-    let wanted = Looked {
-        number: 0,
-        value: ledger::value(m, a),
-        version: ledger::version(m, ledger::record_of(a, z.records)),
-    };
-    same_answer(got, wanted)
-}
-
-// How many addresses are the same on both: every one is looked up, in one pass over a table that is checked once.
-fn agreeing(
-    z: Sizes,
-    words: &[u32],
-    records: &[u32],
-    places: &[PlaceRow],
-    entries: &[EntryRow],
-    m: &[u32],
-) -> u32 {
-    let mut same = 0;
-    if !table_sound::is_sound(z, words, records, places, entries) {
-        return same;
-    }
-    for a in 0..z.words {
-        let seen = table_look::logical(z, words, records, places, entries, a);
-        if same_at(seen, m, z, a) {
-            same = wrapping_add_u32(same, 1);
-        }
-    }
-    same
-}
-
-// The same on the parts of the tables that are lent, and none where a part is not there.
-pub fn agreeing_on(
-    lent: Lent,
-    words: &[u32],
-    records: &[u32],
-    places: &[PlaceRow],
-    entries: &[EntryRow],
-    m: &[u32],
-) -> u32 {
-    let w = lent.words;
-    let r = lent.records;
-    let p = lent.places;
-    let e = lent.entries;
-    if words.len() < w {
-        return 0;
-    }
-    if records.len() < r {
-        return 0;
-    }
-    if places.len() < p {
-        return 0;
-    }
-    if entries.len() < e {
-        return 0;
-    }
-    agreeing(
-        lent.sizes,
-        &words[..w],
-        &records[..r],
-        &places[..p],
-        &entries[..e],
-        m,
-    )
-}
-
-// Both answered the same, and every address of the board is the same.
-pub fn same(got: Looked, wanted: Looked, agreed: u32, lent: Lent) -> bool {
-    same_answer(got, wanted) && wide(agreed) == lent.words
+    let sound = table_sound::checked(board)?;
+    let same = (0..sound.board.sizes.words).filter(|a| same_at(
+        table_look::logical(sound, *a),
+        ledger,
+        *a,
+    ));
+    Some(same.count())
 }

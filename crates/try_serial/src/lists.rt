@@ -1,126 +1,80 @@
 // The lists of those who sleep with another, over what `ledger` keeps: who joins one, and who ends with a task.
-use crate::ledger;
-use crate::ledger::{at, go, set};
-use memory::Sizes;
+use crate::board::{Record, Task};
+use crate::ledger::Ledger;
+use crate::limits;
+use crate::log::{End, Log, Stage};
 
-// Would a task sleep on what a sleeper holds?
-pub fn both_sleep(m: &[u32], z: Sizes, t: usize, h: usize) -> bool {
-    h < z.tasks
-        && at(m, t, ledger::AIM, 0) == ledger::SLEEP
-        && ledger::phase(m, h) == ledger::ASLEEP
-}
-
-// It is on the sleeper's list from now on, if both saw the record at one version.
-pub fn beside(m: &mut [u32], t: usize, r: usize, h: usize) {
-    if at(m, h, ledger::SEEN, r) == at(m, t, ledger::SEEN, r) {
-        set(m, h, ledger::LIST, t, 1);
-        ledger::note(m, ledger::JOINED);
-        ledger::advance(m, t);
-    } else {
-        go(m, t, ledger::RELEASING, ledger::FAILED);
-    }
-}
-
-// A task has come upon a record that another one holds, or, where that is no task, that nobody holds.
-pub fn meet(m: &mut [u32], z: Sizes, h: usize) {
-    if z.tasks <= h {
-        return;
-    }
-    set(m, h, ledger::ENDS, 0, 1);
-    spread_all(m, z);
-    note_all(m, z);
-    leave_all(m, z, h);
-}
-
-// Whoever is on the list of one that ends, ends too. After as many rounds as there are tasks nobody is forgotten.
-fn spread_all(m: &mut [u32], z: Sizes) {
-    for _ in 0..z.tasks {
-        spread(m, z);
-    }
-}
-
-fn spread(m: &mut [u32], z: Sizes) {
-    for w in 0..z.tasks {
-        if at(m, w, ledger::ENDS, 0) == 1 {
-            follow(m, z, w);
-        }
-    }
-}
-
-fn follow(m: &mut [u32], z: Sizes, w: usize) {
-    for t in 0..z.tasks {
-        if at(m, w, ledger::LIST, t) == 1 {
-            set(m, t, ledger::ENDS, 0, 1);
-        }
-    }
-}
-
-// Is anybody on the list of a task? Is the task on one?
-fn has_list(m: &[u32], tasks: usize, t: usize) -> bool {
-    for u in 0..tasks {
-        if at(m, t, ledger::LIST, u) == 1 {
-            return true;
-        }
-    }
-    false
-}
-
-fn on_list(m: &[u32], tasks: usize, t: usize) -> bool {
-    for w in 0..tasks {
-        if at(m, w, ledger::LIST, t) == 1 {
-            return true;
-        }
-    }
-    false
-}
-
-// Counts the lists that those who end lose, once more where one of them is on another's.
-fn note_lists(m: &mut [u32], z: Sizes, t: usize) {
-    if at(m, t, ledger::ENDS, 0) == 0 || !has_list(m, z.tasks, t) {
-        return;
-    }
-    ledger::note(m, ledger::EMPTIED);
-    if on_list(m, z.tasks, t) {
-        ledger::note(m, ledger::CHAINED);
-    }
-}
-
-fn note_all(m: &mut [u32], z: Sizes) {
-    for t in 0..z.tasks {
-        note_lists(m, z, t);
-    }
-}
-
-fn empty_list(m: &mut [u32], tasks: usize, t: usize) {
-    for u in 0..tasks {
-        set(m, t, ledger::LIST, u, 0);
-    }
-}
+// Who of all tasks ends.
+type Ending = [bool; limits::TASKS];
 
 // A task is moved on where it takes or sleeps.
-fn move_on(m: &mut [u32], t: usize, h: usize) {
-    let phase = ledger::phase(m, t);
-    if phase == ledger::TAKING {
-        go(m, t, ledger::RELEASING, ledger::FAILED);
-        if t != h {
-            ledger::note(m, ledger::FAILED_TAKERS);
+fn move_on(log: &mut Log) {
+    match log.stage {
+        Stage::Taking(_) => log.go(Stage::Releasing(End::Failed)),
+        Stage::Asleep => log.go(Stage::Releasing(End::Woken)),
+        _ => {}
+    }
+}
+
+impl Ledger {
+    // A task that would sleep is on a sleeper's list from now on, if both saw the record at one version.
+    pub fn beside(&mut self, t: Task, r: Record, h: Task) {
+        let seen = self.logs[t.index].mark(r).seen;
+        if self.logs[h.index].mark(r).seen == seen {
+            self.logs[h.index].list[t.index] = true;
+            self.logs[t.index].advance();
+            self.counts.joined = self.counts.joined.saturating_add(1);
+        } else {
+            self.logs[t.index].go(Stage::Releasing(End::Failed));
         }
-    } else if phase == ledger::ASLEEP {
-        go(m, t, ledger::RELEASING, ledger::WOKEN);
+    }
+
+    // A task has come upon a record that another one holds: that one ends, and all that are on lists with it.
+    pub fn meet(&mut self, h: Task) {
+        let ending = self.ending_with(h);
+        self.count_lists(&ending);
+        for (index, log) in self.logs.iter_mut().enumerate() {
+            if ending[index] {
+                log.list.fill(false);
+                if index != h.index && matches!(log.stage, Stage::Taking(_)) {
+                    self.counts.failed_takers = self.counts.failed_takers.saturating_add(1);
+                }
+                move_on(log);
+            }
+        }
+    }
+
+    // Whoever is on the list of one that ends, ends too. After as many rounds as there are tasks nobody is forgotten.
+    fn ending_with(&self, h: Task) -> Ending {
+        let mut ending = [false; limits::TASKS];
+        ending[h.index] = true;
+        for _ in 0..limits::TASKS {
+            for (w, log) in self.logs.iter().enumerate() {
+                if ending[w] {
+                    follow(&mut ending, &log.list);
+                }
+            }
+        }
+        ending
+    }
+
+    // Counts the lists that those who end lose, once more where one of them is on another's.
+    fn count_lists(&mut self, ending: &Ending) {
+        for (t, log) in self.logs.iter().enumerate() {
+            if ending[t] && log.list.contains(&true) {
+                self.counts.emptied = self.counts.emptied.saturating_add(1);
+                if self.logs.iter().any(|other| other.list[t]) {
+                    self.counts.chained = self.counts.chained.saturating_add(1);
+                }
+            }
+        }
     }
 }
 
-// All that end, with the holder h, are moved on, and their lists are empty.
-fn leave(m: &mut [u32], z: Sizes, t: usize, h: usize) {
-    if at(m, t, ledger::ENDS, 0) == 1 {
-        set(m, t, ledger::ENDS, 0, 0);
-        empty_list(m, z.tasks, t);
-        move_on(m, t, h);
-    }
-}
-
-fn leave_all(m: &mut [u32], z: Sizes, h: usize) {
-    for t in 0..z.tasks {
-        leave(m, z, t, h);
+fn follow(ending: &mut Ending, list: &Ending) {
+    for (ends, listed) in ending.iter_mut().zip(list) {
+        if *listed {
+            *ends = true;
+        }
     }
 }

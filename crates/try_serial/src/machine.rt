@@ -1,219 +1,204 @@
-// The requests, the step and the look-up, over what `ledger` keeps.
-use crate::ledger::{at, go, lines, record_of, set};
-use crate::{ledger, limits, lists};
-use memory::{Looked, Sizes};
+// The requests and the step, over what `ledger` keeps.
+use crate::board::{Record, Task};
+use crate::ledger::Ledger;
+use crate::log::{Aim, End, Line, Stage};
+use crate::refusal::Refusal;
+use crate::{limits, plain};
+use memory::{Call, Looked};
 
-// A number alone.
-pub fn plain(number: u32) -> Looked {
-    Looked {
-        number,
-        value: 0,
-        version: 0,
-    }
-}
+// What a step answers that goes on, and one that finds its task asleep.
+// What a step answers stays a number: it is compared with the memory's (§9).
+const DONE: u32 = 0;
 
-// The look-up: what the serial board has at an address.
-pub fn look(m: &[u32], z: Sizes, a: usize) -> Looked {
-    if z.words <= a {
-        return plain(5);
-    }
-    Looked {
-        number: 0,
-        value: ledger::value(m, a),
-        version: ledger::version(m, record_of(a, z.records)),
-    }
-}
+const ASLEEP: u32 = 20;
 
-// The number that refuses a request of a task that is to be in a phase, and 0 where none does.
-fn refused(m: &[u32], z: Sizes, t: usize, wanted: u32) -> u32 {
-    if z.tasks <= t {
-        3
-    } else if ledger::phase(m, t) != wanted {
-        4
-    } else {
-        0
-    }
-}
-
-// Start and Commit: from one phase to another.
-pub fn enter(m: &mut [u32], z: Sizes, t: usize, from: u32, phase: u32, aim: u32) -> u32 {
-    let no = refused(m, z, t, from);
-    if no == 0 {
-        go(m, t, phase, aim);
-    }
-    no
-}
-
-pub fn abort(m: &mut [u32], z: Sizes, t: usize) -> u32 {
-    let no = refused(m, z, t, ledger::OPEN);
-    if no == 0 {
-        ledger::end(m, z.records, t);
-    }
-    no
-}
-
-pub fn wait(m: &mut [u32], z: Sizes, t: usize) -> u32 {
-    let no = refused(m, z, t, ledger::OPEN);
-    if no != 0 {
-        return no;
-    }
-    if lines(m, t) == 0 {
-        return 7;
-    }
-    go(m, t, ledger::TAKING, ledger::SLEEP);
-    0
-}
-
-fn past_top(version: u32, writes: bool) -> u32 {
+// No version may be followed by another one past the top.
+fn below_top(version: u32, writes: bool) -> Result<(), Refusal> {
     if writes && version == limits::TOP {
-        8
+        Err(Refusal::NoVersion)
     } else {
-        0
+        Ok(())
     }
 }
 
-// The number that refuses the use of an address, and 0 where none does.
-fn barred(m: &[u32], z: Sizes, t: usize, a: usize, writes: bool) -> u32 {
-    let no = refused(m, z, t, ledger::OPEN);
-    if no != 0 {
-        return no;
+impl Ledger {
+    pub fn request(&mut self, request: Call) -> Result<Looked, Refusal> {
+        let mut looked = plain(DONE);
+        match request {
+            Call::ST(t) => self.enter(t, Stage::Idle, Stage::Open)?,
+            Call::RD(t, address) => looked.value = self.read(t, address)?,
+            Call::WR(t, address, value) => self.write(t, address, value)?,
+            Call::AB(t) => self.abort(t)?,
+            Call::CM(t) => self.enter(t, Stage::Open, Stage::Taking(Aim::Commit))?,
+            Call::WT(t) => self.wait(t)?,
+            Call::SP(t) => looked.number = self.step(t)?,
+        }
+        Ok(looked)
     }
-    if z.words <= a {
-        return 5;
-    }
-    let r = record_of(a, z.records);
-    let seen = at(m, t, ledger::SEEN, r);
-    let n = lines(m, t);
-    if ledger::line_of(m, t, a) < n {
-        return past_top(seen, writes);
-    }
-    if n == limits::LINES {
-        return 6;
-    }
-    let now = ledger::version(m, r);
-    if seen != 0 && seen != now {
-        return 9;
-    }
-    past_top(now, writes)
-}
 
-// The same, once the task's log has a line for an address that is not refused.
-fn noted(m: &mut [u32], z: Sizes, t: usize, a: usize, writes: bool) -> u32 {
-    let no = barred(m, z, t, a, writes);
-    if no == 0 {
-        ledger::add_line(m, t, a, record_of(a, z.records));
-    } else if no == 9 {
-        ledger::end(m, z.records, t);
+    // The task of a request that asks for a stage.
+    fn task_in(&self, index: usize, wanted: Stage) -> Result<Task, Refusal> {
+        let t = self.board.task(index)?;
+        if self.logs[t.index].stage == wanted {
+            Ok(t)
+        } else {
+            Err(Refusal::TooEarly)
+        }
     }
-    no
-}
 
-pub fn read(m: &mut [u32], z: Sizes, t: usize, a: usize) -> Looked {
-    let no = noted(m, z, t, a, false);
-    if no != 0 {
-        return plain(no);
+    // Start and Commit: from one stage to another.
+    fn enter(&mut self, index: usize, from: Stage, to: Stage) -> Result<(), Refusal> {
+        let t = self.task_in(index, from)?;
+        self.logs[t.index].go(to);
+        Ok(())
     }
-    Looked {
-        number: 0,
-        value: ledger::news_of(m, t, a),
-        version: 0,
-    }
-}
 
-pub fn write(m: &mut [u32], z: Sizes, t: usize, a: usize, v: u32) -> u32 {
-    let no = noted(m, z, t, a, true);
-    if no == 0 {
-        ledger::write_line(m, t, a, record_of(a, z.records), v);
+    fn abort(&mut self, index: usize) -> Result<(), Refusal> {
+        let t = self.task_in(index, Stage::Open)?;
+        self.end(t);
+        Ok(())
     }
-    no
-}
 
-// The number of a step that changes nothing, and 0 of one that does.
-fn still(m: &[u32], z: Sizes, t: usize) -> u32 {
-    if z.tasks <= t {
-        return 3;
+    fn wait(&mut self, index: usize) -> Result<(), Refusal> {
+        let t = self.task_in(index, Stage::Open)?;
+        let log = &mut self.logs[t.index];
+        if log.is_empty() {
+            return Err(Refusal::NothingRead);
+        }
+        log.go(Stage::Taking(Aim::Sleep));
+        Ok(())
     }
-    let phase = ledger::phase(m, t);
-    if phase == ledger::IDLE || phase == ledger::OPEN {
-        4
-    } else if phase == ledger::ASLEEP {
-        20
-    } else {
-        0
-    }
-}
 
-pub fn step(m: &mut [u32], z: Sizes, t: usize) -> u32 {
-    let no = still(m, z, t);
-    if no != 0 {
-        return no;
+    // May an open task use an address? Its log then has a line for it.
+    fn may_use(&self, t: Task, address: usize, writes: bool) -> Result<(), Refusal> {
+        if !self.board.has(address) {
+            return Err(Refusal::NoAddress);
+        }
+        let log = &self.logs[t.index];
+        let r = self.board.record_of(address);
+        let now = self.version(r);
+        let seen = log.mark(r).seen.unwrap_or(now);
+        if log.value(address).is_some() {
+            return below_top(seen, writes);
+        }
+        if log.is_full() {
+            return Err(Refusal::Full);
+        }
+        if seen != now {
+            return Err(Refusal::Overtaken);
+        }
+        below_top(now, writes)
     }
-    let i = ledger::position(m, t);
-    if i < lines(m, t) {
-        let r = record_of(ledger::address(m, t, i), z.records);
-        on_line(m, z, t, r);
-        0
-    } else {
-        past_lines(m, z, t)
-    }
-}
 
-// A step on a line, whose record is r. The board has its words since the deciding step, so Writing only goes on.
-fn on_line(m: &mut [u32], z: Sizes, t: usize, r: usize) {
-    let phase = ledger::phase(m, t);
-    if phase == ledger::TAKING {
-        take(m, z, t, r);
-        return;
+    // The task that uses an address, once its log has a line for it: at first the value on the board, and the version of its record
+    // as seen. Whoever was overtaken ends.
+    fn using(&mut self, index: usize, address: usize, writes: bool) -> Result<Task, Refusal> {
+        let t = self.task_in(index, Stage::Open)?;
+        if let Err(refusal) = self.may_use(t, address, writes) {
+            if refusal == Refusal::Overtaken {
+                self.end(t);
+            }
+            return Err(refusal);
+        }
+        let r = self.board.record_of(address);
+        let value = self.value(address);
+        let version = self.version(r);
+        let log = &mut self.logs[t.index];
+        if log.value(address).is_none() {
+            log.add(Line { address, value });
+            log.see(r, version);
+        }
+        Ok(t)
     }
-    ledger::advance(m, t);
-    if phase == ledger::RELEASING {
-        set(m, t, ledger::HOLDS, r, 0);
-    }
-}
 
-// May a task have a record, whose holder is h? It has it already, or nobody has it and its version is the one seen.
-fn may_hold(m: &[u32], z: Sizes, t: usize, r: usize, h: usize) -> bool {
-    if h == t {
-        return true;
+    fn read(&mut self, index: usize, address: usize) -> Result<u32, Refusal> {
+        let t = self.using(index, address, false)?;
+        Ok(self.logs[t.index].value(address).unwrap_or(0))
     }
-    h == z.tasks && ledger::version(m, r) == at(m, t, ledger::SEEN, r)
-}
 
-fn take(m: &mut [u32], z: Sizes, t: usize, r: usize) {
-    let h = ledger::holder(m, z.tasks, r);
-    if may_hold(m, z, t, r, h) {
-        set(m, t, ledger::HOLDS, r, 1);
-        ledger::advance(m, t);
-    } else if lists::both_sleep(m, z, t, h) {
-        lists::beside(m, t, r, h);
-    } else {
-        go(m, t, ledger::RELEASING, ledger::FAILED);
-        lists::meet(m, z, h);
+    fn write(&mut self, index: usize, address: usize, value: u32) -> Result<(), Refusal> {
+        let t = self.using(index, address, true)?;
+        let r = self.board.record_of(address);
+        let log = &mut self.logs[t.index];
+        log.write(address, value);
+        log.wrote(r);
+        Ok(())
     }
-}
 
-// The step after the last line: it ends the transaction, begins to release, or decides.
-fn past_lines(m: &mut [u32], z: Sizes, t: usize) -> u32 {
-    let phase = ledger::phase(m, t);
-    let aim = at(m, t, ledger::AIM, 0);
-    if phase == ledger::RELEASING {
-        ledger::end(m, z.records, t);
-        return aim;
+    // A step: on the line at which the task is, and past the last one it ends what the task does.
+    fn step(&mut self, index: usize) -> Result<u32, Refusal> {
+        let t = self.board.task(index)?;
+        let log = &self.logs[t.index];
+        let line = log.line();
+        match log.stage {
+            Stage::Idle | Stage::Open => Err(Refusal::TooEarly),
+            Stage::Asleep => Ok(ASLEEP),
+            stage => Ok(match line {
+                Some(line) => self.on_line(t, stage, self.board.record_of(line.address)),
+                None => self.past_lines(t, stage),
+            }),
+        }
     }
-    if phase == ledger::WRITING {
-        go(m, t, ledger::RELEASING, ledger::COMMITTED);
-        return 0;
-    }
-    decide(m, z, t, aim)
-}
 
-// The deciding step: a sleeper sleeps, and a commit changes the board.
-fn decide(m: &mut [u32], z: Sizes, t: usize, aim: u32) -> u32 {
-    if aim == ledger::SLEEP {
-        go(m, t, ledger::ASLEEP, 0);
-        return 20;
+    // A step on a line, whose record is r. The board has its words since the deciding step, so Writing only goes on.
+    fn on_line(&mut self, t: Task, stage: Stage, r: Record) -> u32 {
+        let log = &mut self.logs[t.index];
+        match stage {
+            Stage::Taking(aim) => self.take(t, aim, r),
+            Stage::Releasing(_) => {
+                log.hold(r, false);
+                log.advance();
+            }
+            _ => log.advance(),
+        }
+        DONE
     }
-    ledger::settle_all(m, z.records, t);
-    go(m, t, ledger::WRITING, ledger::COMMITTED);
-    0
+
+    // A task has a record that it holds already, or that nobody holds and whose version is the one seen. It waits beside a sleeper,
+    // and else it fails.
+    fn take(&mut self, t: Task, aim: Aim, r: Record) {
+        let holder = self.holder(r);
+        let seen = self.logs[t.index].mark(r).seen;
+        if holder == Some(t) || holder.is_none() && seen == Some(self.version(r)) {
+            let log = &mut self.logs[t.index];
+            log.hold(r, true);
+            log.advance();
+            return;
+        }
+        if let Some(h) = holder
+            && aim == Aim::Sleep
+            && self.logs[h.index].stage == Stage::Asleep
+        {
+            self.beside(t, r, h);
+            return;
+        }
+        self.logs[t.index].go(Stage::Releasing(End::Failed));
+        if let Some(h) = holder {
+            self.meet(h);
+        }
+    }
+
+    // The step after the last line: it ends the transaction, begins to release, or decides.
+    fn past_lines(&mut self, t: Task, stage: Stage) -> u32 {
+        let log = &mut self.logs[t.index];
+        match stage {
+            Stage::Releasing(end) => {
+                self.end(t);
+                end as u32
+            }
+            Stage::Taking(Aim::Sleep) => {
+                log.go(Stage::Asleep);
+                ASLEEP
+            }
+            Stage::Taking(Aim::Commit) => {
+                log.go(Stage::Writing);
+                self.settle(t);
+                DONE
+            }
+            _ => {
+                log.go(Stage::Releasing(End::Committed));
+                DONE
+            }
+        }
+    }
 }

@@ -4,10 +4,8 @@
 
 #![tactic(auto)]
 
-ghost use Rattle.std.specs.Prelude.{◌<◌};
-
-use program_input::read_full;
-use sheet_text::Answer;
+use program_input::{read_full, room};
+use sheet_text::{Done, Refused};
 use std::io;
 use std::io::Read;
 
@@ -19,36 +17,13 @@ const MOST_GIVEN: usize = 1000000;
 
 const MOST_ROOM: usize = 250000;
 
-// The buffers come from functions, so that no proof counts a million bytes.
-fn room_for_given() -> [u8; MOST_GIVEN] {
-    [0u8; MOST_GIVEN]
+// A number of four bytes, the lowest first.
+fn number_of(bytes: [u8; 4]) -> usize {
+    u32::from_le_bytes(bytes) as usize
 }
 
-fn room_for_answer() -> [u8; MOST_ROOM] {
-    [0u8; MOST_ROOM]
-}
-
-fn wide(byte: u8) -> usize
-    ensures { result < 256 }
-{
-    byte as usize
-}
-
-// A number of four bytes from a place on.
-fn number_at(head: &[u8; 9], at: usize) -> usize
-    requires { at < 6 }
-{
-    wide(head[at])
-        + 256 * (wide(head[at + 1]) + 256 * (wide(head[at + 2]) + 256 * wide(head[at + 3])))
-}
-
-fn fill(buffer: &mut [u8]) {
-    for i in 0..buffer.len() {
-        buffer[i] = BEFORE;
-    }
-}
-
-fn ask(way: u8, given: &[u8], out: &mut [u8]) -> Answer {
+// The way stays a byte: it is what the case says.
+fn ask(way: u8, given: &[u8], out: &mut [u8]) -> Result<Done, Refused> {
     if way == b'r' {
         sheet_read::read(given, out)
     } else {
@@ -56,10 +31,12 @@ fn ask(way: u8, given: &[u8], out: &mut [u8]) -> Answer {
     }
 }
 
-fn print(rt: &impl Print, answer: Answer, out: &[u8]) -> io::Result<()> {
-    let number = answer.number;
-    let length = answer.length;
-    let lines = answer.lines;
+// §18.9: the three numbers of an answer, and the buffer.
+fn print(rt: &impl Print, answer: Result<Done, Refused>, out: &[u8]) -> io::Result<()> {
+    let (number, length, lines) = match answer {
+        Ok(done) => (0, done.length, done.lines),
+        Err(refused) => (refused.cause.number(), 0, refused.lines),
+    };
     println!(rt; "{number} {length} {lines}")?;
     rt.write_all(out)
 }
@@ -73,7 +50,7 @@ fn try_parts<I: Read>(
     out: &mut [u8],
 ) -> io::Result<()> {
     read_full(from, given)?;
-    fill(out);
+    out.fill(BEFORE);
     let answer = ask(way, given, out);
     print(rt, answer, out)
 }
@@ -89,15 +66,13 @@ fn try_one<I: Read>(
     if read_full(from, &mut head)? < 9 {
         return Ok(false);
     }
-    let room = number_at(&head, 1);
-    let length = number_at(&head, 5);
-    if given.len() < length {
+    let [way, r0, r1, r2, r3, l0, l1, l2, l3] = head;
+    let room = number_of([r0, r1, r2, r3]);
+    let length = number_of([l0, l1, l2, l3]);
+    let (Some(given), Some(out)) = (given.get_mut(..length), out.get_mut(..room)) else {
         return Ok(false);
-    }
-    if out.len() < room {
-        return Ok(false);
-    }
-    try_parts(from, rt, head[0], &mut given[..length], &mut out[..room])?;
+    };
+    try_parts(from, rt, way, given, out)?;
     Ok(true)
 }
 
@@ -117,7 +92,7 @@ fn try_all<I: Read>(
 }
 
 fn main(rt: HostRuntime) -> io::Result<()> {
-    let mut given = room_for_given();
-    let mut out = room_for_answer();
+    let mut given = room::<MOST_GIVEN>();
+    let mut out = room::<MOST_ROOM>();
     try_all(&mut rt.reader(), &rt, &mut given, &mut out)
 }

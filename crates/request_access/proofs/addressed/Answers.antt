@@ -2,47 +2,45 @@
 use mathlib.Core.Path.{sym, ap, ◌∙◌}
 use native.Mathlib.Omega.{arith}
 use Rattle.memory.specs.declared.Place.{Place}
-use Rattle.memory.specs.Pieces.{memory, is_open}
-use Rattle.memory.proofs.Facts.{places_length, words_most}
-use Rattle.task_permit.specs.declared.Permit.TheVariants.{Granted}
-use Rattle.task_permit.specs.Contract.{Permits}
+use Rattle.memory.specs.Pieces.{is_open}
+use Rattle.memory.proofs.Facts.{tasks_most, run_fits}
 use Rattle.task_permit.proofs.Cases.{permit}
-use Rattle.task_descriptor.proofs.Entries.{within}
-use Rattle.request_access.proofs.Addresses.{access_refused, access_5, access_known, access_new}
-use Rattle.request_access.proofs.addressed.Goals.{In-Granted}
+use Rattle.request_access.proofs.Addresses.{handed, access_refused, access_5, access_known, access_new}
 use Rattle.request_access.proofs.addressed.Goals as goal
 
-pub asked-permit-requires : goal.asked-permit-requires
-asked-permit-requires c = places_length _ _ c.requires
-
--- the permit that was granted
-granted : (c : In-Granted)
-    → Permits c.args.sizes (memory c.args.words.now c.args.records.now c.args.places.now c.args.entries.now) c.args.task is_open (Granted c.in-Granted.place)
-granted c = permit _ _ c.requires _ is_open _ c.asked-permit.ensures _ c.in-Granted.is
+pub returns-in_err-place : goal.returns-in_err-place
+returns-in_err-place c =
+    handed _ c.from_residual.ensures.1 (access_refused _ _ c.args.sound.sound _ _ _ (permit _ _ c.args.sound.sound _ is_open _ c.asked.ensures _ c.in_err-place.was))
 
 pub returns-then-sizes-address : goal.returns-then-sizes-address
 returns-then-sizes-address c =
-    access_5 _ _ c.requires _ _ _ (granted (goal.at.returns-then-sizes-address c).In-Granted) c.if-sizes-address.true
+    let p = permit _ _ c.args.sound.sound _ is_open _ c.asked.ensures _ c.in_ok-place.was in
+    access_5 _ _ c.args.sound.sound _ _ _ p c.if-sizes-address.true
 
-pub entry_for-known-requires : goal.entry_for-known-requires
-entry_for-known-requires c =
-    let ok = c.requires in
-    let p = granted (goal.at.entry_for-known-requires c).In-Granted in
-    (within _ _ ok _ p.shows.0 _ (ap (λ (q : Place). q.count) p.shows.1), omega (arith, c.if-sizes-address.false, words_most _ _ ok))
+pub run_of-run-requires : goal.run_of-run-requires
+run_of-run-requires c =
+    let p = permit _ _ c.args.sound.sound _ is_open _ c.asked.ensures _ c.in_ok-place.was in
+    (omega (arith, tasks_most _ _ c.args.sound.sound, p.shows.0), omega (arith, run_fits _ _ c.args.sound.sound _ p.shows.0, ap (λ (q : Place). q.count) p.shows.1))
 
 pub new_address-requires : goal.new_address-requires
 new_address-requires c =
-    let p = granted (goal.at.new_address-requires c).In-Granted in
-    (c.requires, p.shows.0, c.if-sizes-address.false, p.shows.1)
+    let p = permit _ _ c.args.sound.sound _ is_open _ c.asked.ensures _ c.in_ok-place.was in
+    (p.shows.0, c.if-sizes-address.false, ap (λ (q : Place). q.count) p.shows.1)
 
-pub returns-in-Refused : goal.returns-in-Refused
-returns-in-Refused c =
-    access_refused _ _ c.requires _ _ _ (permit _ _ c.requires _ is_open _ c.asked-permit.ensures _ c.in-Refused.is)
+pub returns-in-Some : goal.returns-in-Some
+returns-in-Some c =
+    let p = permit _ _ c.args.sound.sound _ is_open _ c.asked.ensures _ c.in_ok-place.was in
+    access_known _ _ c.args.sound.sound _ _ _ p c.if-sizes-address.false _ (sym (rw c.run_of-run.ensures at c.find_address.ensures) ∙ c.in-Some.is)
 
-pub returns-in-First : goal.returns-in-First
-returns-in-First c =
-    access_known _ _ c.requires _ _ _ (granted (goal.at.returns-in-First c).In-Granted) c.if-sizes-address.false _ (sym c.entry_for-known.ensures ∙ c.in-First.is)
+pub returns-in_err-entry-in-None : goal.returns-in_err-entry-in-None
+returns-in_err-entry-in-None c =
+    let p = permit _ _ c.args.sound.sound _ is_open _ c.asked.ensures _ c.in_ok-place.was in
+    let none = sym (rw c.run_of-run.ensures at c.find_address.ensures) ∙ c.in-None.is in
+    handed _ c.from_residual-in_err-entry-in-None.ensures.1
+    (access_new _ _ c.args.sound.sound _ _ _ p c.if-sizes-address.false none _ _ c.new_address.ensures c.in_err-entry-in-None.was)
 
-pub returns-in-Nothing : goal.returns-in-Nothing
-returns-in-Nothing c =
-    access_new _ _ c.requires _ _ _ (granted (goal.at.returns-in-Nothing c).In-Granted) c.if-sizes-address.false (sym c.entry_for-known.ensures ∙ c.in-Nothing.is) _ c.new_address.ensures
+pub returns-in_ok-entry-in-None : goal.returns-in_ok-entry-in-None
+returns-in_ok-entry-in-None c =
+    let p = permit _ _ c.args.sound.sound _ is_open _ c.asked.ensures _ c.in_ok-place.was in
+    let none = sym (rw c.run_of-run.ensures at c.find_address.ensures) ∙ c.in-None.is in
+    access_new _ _ c.args.sound.sound _ _ _ p c.if-sizes-address.false none _ _ c.new_address.ensures c.in_ok-entry-in-None.was

@@ -2,27 +2,22 @@
 use native.Mathlib.Omega.{arith}
 use Rattle.memory.specs.Pieces.{is_open, move}
 use Rattle.memory.specs.Requests.{commit}
-use Rattle.memory.proofs.Facts.{places_length}
-use Rattle.request_phase.proofs.Granted.{refuses, few, elsewhere, fits, answers}
+use Rattle.request_phase.proofs.Granted.{refuses, few, elsewhere, fits, stores}
 use Rattle.request_commit.proofs.commit_sound.Goals as goal
 
-pub asked-permit-requires : goal.asked-permit-requires
-asked-permit-requires c = places_length _ _ c.requires
+pub returns-in_err-place : goal.returns-in_err-place
+unfolding commit
+returns-in_err-place c = refuses _ _ c.requires _ is_open _ c.asked.ensures _ c.in_err-place.was _ c.from_residual.ensures.1 _
 
 pub placed-requires : goal.placed-requires
 placed-requires c =
-    let told = c.in-Granted.is in
-    fits _ _ c.requires _ is_open _ c.asked-permit.ensures _ told _ _ c.moved-taking.ensures
-    (few _ _ c.requires _ is_open _ c.asked-permit.ensures _ told) (omega arith)
+    let told = c.in_ok-place.was in
+    fits _ _ c.requires _ is_open _ c.asked.ensures _ told _ _ c.moved-taking.ensures
+    (few _ _ c.requires _ is_open _ c.asked.ensures _ told) (omega arith)
 
-pub returns-in-Refused : goal.returns-in-Refused
-unfolding commit
-returns-in-Refused c =
-    refuses _ _ c.requires _ is_open _ c.asked-permit.ensures _ c.in-Refused.is _ c.without_value.ensures _
-
-pub returns-in-Granted : goal.returns-in-Granted
+pub returns : goal.returns
 unfolding commit move
-returns-in-Granted c =
-    let told = c.in-Granted.is in
-    answers _ _ c.requires _ is_open _ c.asked-permit.ensures _ told _ _
-    (elsewhere _ _ c.requires _ is_open _ c.asked-permit.ensures _ told _ _ c.moved-taking.ensures) _ _ (c.placed.ensures _ _ _)
+returns c =
+    let told = c.in_ok-place.was in
+    stores _ _ c.requires _ is_open _ c.asked.ensures _ told _ _
+    (elsewhere _ _ c.requires _ is_open _ c.asked.ensures _ told _ _ c.moved-taking.ensures) _ _ (c.placed.ensures _ _ _)

@@ -2,23 +2,16 @@
 use native.Mathlib.Omega.{arith}
 use Rattle.memory.specs.Pieces.{is_idle}
 use Rattle.memory.specs.Requests.{start}
-use Rattle.memory.proofs.Facts.{places_length}
-use Rattle.request_phase.proofs.Granted.{refuses, fits, answers}
+use Rattle.request_phase.proofs.Granted.{refuses, inside, stores}
 use Rattle.request_phase.proofs.start_sound.Goals as goal
 
-pub asked-permit-requires : goal.asked-permit-requires
-asked-permit-requires c = places_length _ _ c.requires
+pub returns-in_err-asked : goal.returns-in_err-asked
+unfolding start
+returns-in_err-asked c = refuses _ _ c.requires _ is_idle _ c.asked.ensures _ c.in_err-asked.was _ c.from_residual.ensures.1 _
 
 pub placed-requires : goal.placed-requires
-placed-requires c =
-    fits _ _ c.requires _ is_idle _ c.asked-permit.ensures _ c.in-Granted.is _ _ c.bare.ensures (omega arith) (omega arith)
+placed-requires c = (inside _ _ c.requires _ is_idle _ c.asked.ensures _ c.in_ok-asked.was, grind arith, grind arith)
 
-pub returns-in-Refused : goal.returns-in-Refused
+pub returns : goal.returns
 unfolding start
-returns-in-Refused c =
-    refuses _ _ c.requires _ is_idle _ c.asked-permit.ensures _ c.in-Refused.is _ c.without_value.ensures _
-
-pub returns-in-Granted : goal.returns-in-Granted
-unfolding start
-returns-in-Granted c =
-    answers _ _ c.requires _ is_idle _ c.asked-permit.ensures _ c.in-Granted.is _ _ c.bare.ensures _ _ (c.placed.ensures _ _ _)
+returns c = stores _ _ c.requires _ is_idle _ c.asked.ensures _ c.in_ok-asked.was _ _ c.bare.ensures _ _ (c.placed.ensures _ _ _)

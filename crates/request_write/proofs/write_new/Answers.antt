@@ -4,12 +4,11 @@ use mathlib.Core.Path.{sym, ap, ◌∙◌}
 use mathlib.Core.List.{[]}
 use native.Mathlib.Omega.{arith}
 use Rattle.memory.specs.Pieces.{Memory, set_place, set_entry}
-use Rattle.request_phase.proofs.Granted.{answered}
 use Rattle.request_write.proofs.Stored.{fewer, store_8, store-grown}
 use Rattle.request_write.proofs.write_new.Goals as goal
 
 pub returns-then-at_top : goal.returns-then-at_top
-returns-then-at_top c = λ ws rs. answered _ _ c.without_value.ensures _ ∙ sym (store_8 _ _ _ _ _ _ _ _ (sym c.at_top.ensures ∙ c.if-at_top.true))
+returns-then-at_top c = λ ws rs. sym (store_8 _ _ _ _ _ _ _ _ (sym c.at_top.ensures ∙ c.if-at_top.true))
 
 pub write_run-requires : goal.write_run-requires
 unfolding set_place set_entry
@@ -18,5 +17,5 @@ write_run-requires c =
 
 pub returns : goal.returns
 returns c = λ ws rs.
-    answered _ _ c.without_value-2.ensures _
-    ∙ store-grown _ _ _ _ _ _ _ _ _ _ (c.add_entry.ensures ws rs) (c.write_run.ensures ws rs _) (sym c.at_top.ensures ∙ c.if-at_top.false)
+    rw c.plain.ensures
+    (store-grown _ _ _ _ _ _ _ _ _ _ (c.add_entry.ensures ws rs) (c.write_run.ensures ws rs _) (sym c.at_top.ensures ∙ c.if-at_top.false))

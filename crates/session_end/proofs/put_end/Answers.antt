@@ -7,8 +7,8 @@ use Rattle.session_end.proofs.put_end.Goals as goal
 
 pub returns-in_default : goal.returns-in_default
 returns-in_default c =
-    λ m. rw (not-refused _ m _ c.in_default.not-Refused) (record { lines = put_none line_room _ _; whole = refl; board = refl })
+    λ m. rw (not-refused _ m _ c.in_default.not-Err) (record { lines = put_none line_room _; whole = refl; board = refl })
 
 pub returns : goal.returns
 returns c =
-    λ m. rw c.in-Refused.is (record { lines = c.put_line-next.ensures; whole = refl; board = refl })
+    λ m. rw (c.in-Err.is, ← c.number.ensures) (record { lines = c.put_line.ensures; whole = refl; board = refl })

@@ -2,8 +2,5 @@
 use Rattle.session_fields.proofs.Numbers.{Above}
 use Rattle.session_fields.proofs.number_at.Given as goal
 
-abbrev pub invariant-loop-left : goal.invariant-loop-left
-invariant-loop-left l = Above l.width l.at l.body l.left l.sum
-
-abbrev pub decreases-loop-left : goal.decreases-loop-left
-decreases-loop-left l = l.left
+abbrev pub invariant-loop-i : goal.invariant-loop-i
+invariant-loop-i l = Above l.width l.at l.body l.i l.number

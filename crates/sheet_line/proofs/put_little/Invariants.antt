@@ -1,10 +1,7 @@
--- `sheet_line::put_little` meets its contract: byte by byte, the lowest first.
-use Prim.Native.Nat.{◌-◌}
-use Rattle.sheet_line.proofs.Bytes.{Begun}
+-- `sheet_line::put_little` meets its contract: the bytes that were passed were put.
+use lib.ListN.{take}
+use Rattle.session_text.specs.Out.{Puts}
 use Rattle.sheet_line.proofs.put_little.Given as goal
 
-abbrev pub invariant-loop-i : goal.invariant-loop-i
-invariant-loop-i l = Begun l.width l.number l.initial.out l.at l._i l.left l.out l.next
-
-abbrev pub decreases-loop-i : goal.decreases-loop-i
-decreases-loop-i l = l.width - l._i
+abbrev pub invariant-loop-byte : goal.invariant-loop-byte
+invariant-loop-byte l = Puts l.byte-index l.initial.out l.out (take l.byte-index l.byte-items)

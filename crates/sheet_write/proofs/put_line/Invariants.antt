@@ -4,7 +4,7 @@ use Rattle.sheet_write.proofs.Fields.{Fields}
 use Rattle.sheet_write.proofs.put_line.Given as goal
 
 abbrev pub invariant-loop-field : goal.invariant-loop-field
-invariant-loop-field l = Fields l.kind l.body l.initial.out l.initial.next l.field-end l.out l.next l.field
+invariant-loop-field l = Fields l.kind l.body l.initial.out l.field-end l.out l.field
 
 abbrev pub decreases-loop-field : goal.decreases-loop-field
 decreases-loop-field l = l.field-end - l.field

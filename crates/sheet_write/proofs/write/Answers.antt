@@ -1,61 +1,38 @@
 -- `sheet_write::write` meets its contract: the first pass tells how the session ends and how long its text is, the second writes it.
-use Prim.Native.Nat.{ℕ, ◌<◌, ◌≤◌}
-use mathlib.Core.Path.{◌≡◌, refl, sym}
+use Rattle.std.specs.Prelude.{None, Some, Ok, Err}
+use Prim.Native.Nat.{ℕ}
+use mathlib.Core.Path.{◌≡◌, refl, sym, ◌∙◌}
 use mathlib.Core.List.{List}
 use lib.ListN.{length}
-use native.Mathlib.Omega.{arith}
-use borrow.Author.Tests.{lt-ltb, le-ltb}
+use Rattle.std.proofs.lemmas.Result.{err_from_is_err_and}
+use Rattle.session_marks.specs.declared.Kind.{Kind}
 use Rattle.session_split.proofs.Promises.{splits_to_the_end}
-use Rattle.session_split.specs.declared.Split.{Split}
-use Rattle.session_split.specs.declared.Split.TheVariants.{Record, Refused, End}
-use Rattle.session_split.specs.Session.{session}
-use Rattle.session_text.specs.Text.{Put}
-use Rattle.session_text.proofs.Laws.{stored_front}
-use Rattle.sheet_text.specs.Read.{answer}
-use Rattle.sheet_text.specs.Write.{text_of, writing}
+use Rattle.session_split.specs.Session.{Split, session}
+use Rattle.sheet_text.specs.Answer.{lent}
+use Rattle.sheet_text.specs.Write.{text_of, writing_as, writing}
+use Rattle.sheet_text.proofs.Lent.{faulty, short, fits}
+use Rattle.sheet_write.specs.Contract.{known_by, known}
 use Rattle.sheet_write.proofs.write.Goals as goal
 
--- what the first pass tells
-module _ (s : List ℕ) (e : Split) (n len : ℕ) (nowhere kept : List ℕ) (most : ℕ)
-    (known : (e ≡ (session s).ended) × (n ≡ length (session s).pieces) × Put most nowhere 0 (text_of (session s).pieces) kept len) where
-  -- a session that is not refused has ended
-  ends : ((r : ℕ) → e ≡ Refused r → ⊥) → (session s).ended ≡ End
-  ends h = go e known.0 h
-    where
-      go : (x : Split) → x ≡ (session s).ended → ((r : ℕ) → x ≡ Refused r → ⊥) → (session s).ended ≡ End
-      go (Record k) q h = absurd ((splits_to_the_end s).0 k (sym q))
-      go (Refused r) q h = absurd (h r refl)
-      go End q h = sym q
+-- no session ends in a record
+by_end : (text out : List ℕ) (n : ℕ) (e : Split) → ((k : Kind) → e ≡ Ok (Some k) → ⊥) → writing_as text out n e ≡ lent (known_by text n e) text out
+by_end text out n (Ok (Some k)) none = absurd (none k refl)
+by_end text out n (Ok None) none = refl
+by_end text out n (Err f) none = refl
 
-  has : len ≡ length (text_of (session s).pieces)
-  has = omega (arith, known.2.after)
+by_known : (s out : List ℕ) → writing s out ≡ lent (known s) (text_of (session s).pieces) out
+unfolding writing
+by_known s out = by_end _ out (length (session s).pieces) (session s).ended (splits_to_the_end s).0
 
-  -- what is answered, and what the buffer holds then
-  module _ (out : List ℕ) where
-    refuses : (r : ℕ) → e ≡ Refused r → writing s out ≡ (answer r 0 n, out)
-    unfolding writing
-    refuses r q = rw (← known.0, q, ← known.1)
-
-    no_room : (session s).ended ≡ End → length out < len → writing s out ≡ (answer 35 0 n, out)
-    unfolding writing
-    no_room end h = rw (end, ← has, lt-ltb (length out) len h, ← known.1)
-
-    writes : (left : List ℕ) (end : ℕ) → (session s).ended ≡ End → len ≤ length out → Put most out 0 (text_of (session s).pieces) left end
-        → writing s out ≡ (answer 0 len n, left)
-    unfolding writing
-    writes left end ended h p =
-        rw (ended, has, le-ltb (length out) (length (text_of (session s).pieces)) (rw has at h), ← known.1, p.holds, stored_front out (text_of (session s).pieces))
-
-pub returns-in-Refused : goal.returns-in-Refused
-returns-in-Refused c =
-    rw c.refused.ensures (refuses _ _ _ _ _ _ _ c.put_lines-known.ensures _ _ c.in-Refused.is)
+pub returns-in_err-known : goal.returns-in_err-known
+returns-in_err-known c =
+    let p = err_from_is_err_and c.from_residual.result c.from_residual.ensures.1 in
+    rw (p.1, p.2) (by_known _ _ ∙ faulty _ _ (sym c.in_err-known.was ∙ c.put_lines.ensures.0))
 
 pub returns-then-out-known : goal.returns-then-out-known
-returns-then-out-known c =
-    let known = c.put_lines-known.ensures in
-    rw c.refused-then-out-known.ensures (no_room _ _ _ _ _ _ _ known _ (ends _ _ _ _ _ _ _ known c.in_default.not-Refused) c.if-out-known.true)
+returns-then-out-known c = by_known _ _ ∙ short _ _ (sym c.in_ok-known.was ∙ c.put_lines.ensures.0) c.if-out-known.true
 
 pub returns : goal.returns
 returns c =
-    let known = c.put_lines-known.ensures in
-    writes _ _ _ _ _ _ _ known _ _ _ (ends _ _ _ _ _ _ _ known c.in_default.not-Refused) c.if-out-known.false c.put_lines.ensures.2
+    let is = sym c.in_ok-known.was ∙ c.put_lines.ensures.0 in
+    rw (c.put_lines-2.ensures.0, ← is) (by_known _ _ ∙ fits _ _ is c.if-out-known.false c.put_lines-2.ensures.1)

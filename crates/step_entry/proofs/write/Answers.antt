@@ -7,13 +7,13 @@ use Rattle.step_entry.proofs.write.Goals as goal
 pub entry_at-entry-requires : goal.entry_at-entry-requires
 entry_at-entry-requires c = entry_in c.requires.entered
 
-pub overflow_add-next : goal.overflow_add-next
-overflow_add-next c = omega (arith, few_entries c.requires.entered)
-
-pub bounds-words-address : goal.bounds-words-address
+pub bounds-words-entry : goal.bounds-words-entry
 unfolding entry
-bounds-words-address c = rw (c.wide-address.ensures, c.entry_at-entry.ensures) (address_in c.requires.entered)
+bounds-words-entry c = rw c.entry_at-entry.ensures (address_in c.requires.entered)
+
+pub overflow_add-result : goal.overflow_add-result
+overflow_add-result c = omega (arith, few_entries c.requires.entered)
 
 pub returns : goal.returns
 unfolding entry
-returns c records places = write_word _ _ _ _ c.entry_at-entry.result _ c.entry_at-entry.ensures c.wide-address.ensures
+returns c records places = write_word _ _ _ _ _ c.entry_at-entry.ensures

@@ -6,8 +6,8 @@ use Rattle.step_phase.proofs.decide.Goals as goal
 
 pub returns-in-Commit : goal.returns-in-Commit
 unfolding decide move
-returns-in-Commit c = rw (c.goes.ensures, c.in-Commit.is) (record { leaves = λ m t own. rw own; same_count = refl; at_start = refl })
+returns-in-Commit c = rw (c.plain.ensures, c.moved.ensures, c.in-Commit.is) (record { leaves = λ m t own. rw own; same_count = refl; at_start = refl })
 
 pub returns-in-Sleep : goal.returns-in-Sleep
 unfolding decide move
-returns-in-Sleep c = rw (c.goes-in-Sleep.ensures, c.in-Sleep.is) (record { leaves = λ m t own. rw own; same_count = refl; at_start = refl })
+returns-in-Sleep c = rw (c.plain-in-Sleep.ensures, c.moved-in-Sleep.ensures, c.in-Sleep.is) (record { leaves = λ m t own. rw own; same_count = refl; at_start = refl })

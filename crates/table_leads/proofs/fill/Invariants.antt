@@ -1,7 +1,7 @@
 -- The sets are stored one after the other.
-use Prim.Native.Nat.{ℕ, ◌≤◌, ◌-◌}
+use Prim.Native.Nat.{ℕ}
 use mathlib.Core.List.{List, []}
-use lib.ListN.{length, get_or}
+use lib.ListN.{get_or}
 use Rattle.table_leads.proofs.Parts.{Part}
 use Rattle.table_leads.proofs.fill.Given as goal
 
@@ -10,7 +10,4 @@ abbrev pub own : List (List ℕ) → ℕ → ℕ
 own places t = get_or (get_or places t []) 3 0
 
 abbrev pub invariant-loop-t : goal.invariant-loop-t
-invariant-loop-t l = (l.t ≤ length l.places) × Part (own l.places) l.initial.ways l.ways l.t
-
-abbrev pub decreases-loop-t : goal.decreases-loop-t
-decreases-loop-t l = length l.places - l.t
+invariant-loop-t l = Part (own l.places) l.initial.ways l.ways l.t

@@ -1,12 +1,8 @@
 -- The sets are stored one after the other; those who lead to task k are read before the first is stored.
-use Prim.Native.Nat.{◌≤◌, ◌-◌}
 use lib.ListN.{get_or}
 use Rattle.table_leads.specs.Contract.{through}
 use Rattle.table_leads.proofs.Parts.{Part}
 use Rattle.table_leads.proofs.pass_all.Given as goal
 
-abbrev pub invariant-loop-t : goal.invariant-loop-t
-invariant-loop-t l = (l.t ≤ l.n) × Part (λ x. through (get_or l.initial.ways l.k 0) l.k (get_or l.initial.ways x 0)) l.initial.ways l.ways l.t
-
-abbrev pub decreases-loop-t : goal.decreases-loop-t
-decreases-loop-t l = l.n - l.t
+abbrev pub invariant-loop-set : goal.invariant-loop-set
+invariant-loop-set l = Part (λ x. through (get_or l.initial.ways l.k 0) l.k (get_or l.initial.ways x 0)) l.initial.ways l.ways l.set-index

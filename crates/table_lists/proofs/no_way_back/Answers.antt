@@ -2,8 +2,11 @@
 use mathlib.Core.Path.{◌≡◌, refl, sym, ap, ◌∙◌}
 use mathlib.Core.Bool.{not}
 use native.Mathlib.Omega.{arith}
-use lib.ListN.{length}
-use Rattle.memory.specs.Lists.{leads}
+use Prim.Native.Nat.{ℕ, ◌<◌, ◌≤◌}
+use lib.ListN.{length, get_or}
+use Rattle.std.proofs.lemmas.Grind.{get_or_default_zero}
+use Rattle.std.proofs.lemmas.List.{get_or-take, length-take-le}
+use Rattle.memory.specs.Lists.{has, leads}
 use Rattle.memory.specs.Sound.{all_below}
 use Rattle.table_parts.proofs.Tests.{below_more, below_all, below_fault}
 use Rattle.table_leads.specs.Contract.{joined_in}
@@ -12,18 +15,25 @@ use Rattle.table_lists.proofs.no_way_back.Goals as goal
 
 pub loop-t-init : goal.loop-t-init
 unfolding all_below
-loop-t-init c = (omega arith, refl)
+loop-t-init c = refl
 
 -- the answer about task t
 led : (c : After-has) → let places = c.args.places.now in
     c.has.result ≡ leads (joined_in places) (length places) c.loop-t.t c.loop-t.t
-led c = c.has.ensures ∙ c.ways.ensures.each _ _ c.loop-t-test.true
+led c =
+    let n = length c.args.places.now in
+    let sets = c.ways.new.sets in
+    let fits : n ≤ length sets = omega (arith, c.ways.ensures.long, c.requires) in
+    let below : c.loop-t.t < n = omega (arith, c.loop-t-test.true, length-take-le n sets fits) in
+    let read : c.way-item.result ≡ get_or sets c.loop-t.t 0 =
+    c.way-item.is ∙ get_or-take n sets c.loop-t.t _ below ∙ get_or_default_zero sets c.loop-t.t _ (omega arith) in
+    c.has.ensures ∙ ap (λ (s : ℕ). has s c.loop-t.t) read ∙ c.ways.ensures.each _ _ below
 
 pub returns-then-has : goal.returns-then-has
-returns-then-has c = sym (below_fault _ _ _ c.loop-t-test.true (ap not (sym (led (goal.at.returns-then-has c).After-has) ∙ c.if-has.true)))
+returns-then-has c = sym (below_fault _ _ _ (omega arith) (ap not (sym (led (goal.at.returns-then-has c).After-has) ∙ c.if-has.true)))
 
 pub loop-t-preserved : goal.loop-t-preserved
-loop-t-preserved c = (omega arith, below_more _ _ c.loop-t.invariant.1 (ap not (sym (led (goal.at.loop-t-preserved c).After-has) ∙ c.if-has.false)))
+loop-t-preserved c = below_more _ _ c.loop-t.invariant (ap not (sym (led (goal.at.loop-t-preserved c).After-has) ∙ c.if-has.false))
 
 pub returns : goal.returns
-returns c = sym (below_all _ _ _ c.loop-t.invariant.1 (omega arith) (omega arith))
+returns c = sym (below_all _ _ _ c.loop-t.invariant (omega arith) (omega arith))

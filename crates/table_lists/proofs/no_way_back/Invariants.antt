@@ -1,5 +1,5 @@
 -- No way leads back to one of the tasks so far.
-use Prim.Native.Nat.{ℕ, ◌≤◌, ◌-◌}
+use Prim.Native.Nat.{ℕ}
 use mathlib.Core.Path.{◌≡◌}
 use mathlib.Core.List.{List}
 use mathlib.Core.Bool.{Bool, true, not}
@@ -13,7 +13,4 @@ abbrev pub back : List (List ℕ) → ℕ → Bool
 back places t = not (leads (joined_in places) (length places) t t)
 
 abbrev pub invariant-loop-t : goal.invariant-loop-t
-invariant-loop-t l = (l.t ≤ length l.places) × (all_below l.t (back l.places) ≡ true)
-
-abbrev pub decreases-loop-t : goal.decreases-loop-t
-decreases-loop-t l = length l.places - l.t
+invariant-loop-t l = all_below l.t (back l.places) ≡ true

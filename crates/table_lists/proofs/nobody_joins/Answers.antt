@@ -1,34 +1,21 @@
--- Those on a list so far, counted: nobody is where none was counted.
-use Prim.Native.Nat.{ℕ}
-use mathlib.Core.Path.{◌≡◌, refl, sym, ap, ◌∙◌}
-use native.Mathlib.Omega.{arith}
-use lib.ListN.{length}
-use lib.Dec.{eqb}
-use borrow.Author.Tests.{eq-eqb, ne_eqb}
-use Rattle.memory.specs.Sound.{all_below}
-use Rattle.table_parts.proofs.Tests.{next_fault, next_good}
-use Rattle.table_lists.proofs.nobody_joins.Goals.{then-places-t-ne0, else-places-t-ne0}
+-- Nobody is on a list where each row says so.
+use Rattle.std.proofs.Common.{rules, ◌≡◌, ◌∙◌, Bool, eqb, get_or, refl, ℕ, List, Bor}
+use mathlib.Core.List.{[]}
+use borrow.Author.Tests.{tests}
+use Rattle.std.specs.List.{list_all}
+use Rattle.std.proofs.lemmas.Fn.{fold_over}
+use Rattle.std.proofs.iter.Yields.{fronts}
+use Rattle.std.proofs.lemmas.Iterator.{YieldsList-from_slice}
+use Rattle.table_parts.proofs.Tests.{all_more, below-list}
 use Rattle.table_lists.proofs.nobody_joins.Goals as goal
 
-pub loop-t-init : goal.loop-t-init
-unfolding all_below
-loop-t-init c = record { within = omega arith; few = omega arith; found = refl }
-
-pub loop-t-preserved : goal.loop-t-preserved
-loop-t-preserved c =
-    let f = c.loop-t.invariant.found in
-    elim c.if-places-t-ne0.branch [
-      | then-places-t-ne0 w ↦
-          record {
-            within = omega arith;
-            few = omega arith;
-            found = next_fault _ _ (ne_eqb _ 0 w.if-places-t-ne0.true) ∙ sym (ne_eqb c.if-places-t-ne0.joined 0 (λ (h : c.if-places-t-ne0.joined ≡ 0). omega arith));
-          }
-      | else-places-t-ne0 w ↦
-          record { within = omega arith; few = omega arith; found = next_good _ _ (eq-eqb _ 0 w.if-places-t-ne0.false) ∙ f ∙ ap (λ (x : ℕ). eqb x 0) (sym w.joined-is) }
-    ]
+abbrev nobody : List ℕ → Bool
+nobody row = eqb (get_or row 3 0) 0
 
 pub returns : goal.returns
 returns c =
-    let e : c.loop-t.t ≡ length c.args.places.now = omega arith in
-    sym (rw e at c.loop-t.invariant.found)
+    let told : c.fold.result ≡ list_all nobody c.args.places.now =
+    fold_over fronts (λ (row : Bor (List ℕ)). row.now) _ (λ rows b. b ≡ list_all nobody rows) _
+    (λ ys a x b q j k. (all_more nobody ys x.now j (search (rules, tests)), search (rules, tests)))
+    c.iter.result _ _ _ (YieldsList-from_slice {s = c.iter.result} c.args.places.now cc).runs refl c.fold.ensures.ran in
+    told ∙ below-list _ [] _

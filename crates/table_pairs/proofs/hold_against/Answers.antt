@@ -22,8 +22,8 @@ returns-then-top-entry c = (
   inr record {
     some = c.if-seen-base.false;
     versions = ap not c.agree-good.ensures;
-    raised = c.greater-top.ensures.0;
-    covers = c.greater-top.ensures.1;
+    raised = omega (arith, c.max-top.ensures);
+    covers = omega (arith, c.max-top.ensures);
     pairs = inr c.if-top-entry.true;
   },
 )
@@ -35,8 +35,8 @@ returns c = (
   inr record {
     some = c.if-seen-base.false;
     versions = ap not c.agree-good.ensures;
-    raised = c.greater-top.ensures.0;
-    covers = c.greater-top.ensures.1;
+    raised = omega (arith, c.max-top.ensures);
+    covers = omega (arith, c.max-top.ensures);
     pairs = inl (omega arith);
   },
 )

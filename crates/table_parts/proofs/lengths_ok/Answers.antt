@@ -24,7 +24,7 @@ returns-then-places-sizes c =
 pub returns-else-places-sizes : goal.returns-else-places-sizes
 unfolding lengths_ok
 returns-else-places-sizes c =
-    let a = c.args in
+    let a = c.args.board in
     elim c.if-places-sizes.either [
       | inl w ↦ simp (ne_eqb (length a.places.now) a.sizes.tasks w.2, and-false) (cc)
       | inr (inl w) ↦ simp (ne_eqb (length a.records.now) a.sizes.records w.1, and-false) (cc)

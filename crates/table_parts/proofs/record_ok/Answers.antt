@@ -10,6 +10,6 @@ pub returns-then-number-lt-FIRST_OWNER : goal.returns-then-number-lt-FIRST_OWNER
 unfolding record_ok held_of within
 returns-then-number-lt-FIRST_OWNER c = simp (lt-ltb _ _ c.if-number-lt-FIRST_OWNER.true, le-leb c.args.number top_version (omega arith), and-true)
 
-pub returns : goal.returns
+pub returns-else-number-lt-FIRST_OWNER : goal.returns-else-number-lt-FIRST_OWNER
 unfolding record_ok held_of
-returns c = simp (le-ltb _ _ c.if-number-lt-FIRST_OWNER.false)
+returns-else-number-lt-FIRST_OWNER c = simp (le-ltb _ _ c.if-number-lt-FIRST_OWNER.false)

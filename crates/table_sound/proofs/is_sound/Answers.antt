@@ -12,7 +12,7 @@ use Rattle.table_sound.proofs.is_sound.Goals.{Joined-lengths_ok, Joined-sizes_ok
 use Rattle.table_sound.proofs.is_sound.Goals as goal
 
 -- what the first two answers make, and the first three
-two : (c : Joined-sizes_ok) → let a = c.args in
+two : (c : Joined-sizes_ok) → let a = c.args.board in
     c.if-sizes_ok.value ≡ (sizes_ok a.sizes && lengths_ok a.sizes (memory a.words.now a.records.now a.places.now a.entries.now))
 two c =
     let e = c.sizes_ok.ensures in
@@ -21,7 +21,7 @@ two c =
       | else-sizes_ok w ↦ and-stop _ (sym e ∙ w.if-sizes_ok.false) (w.value-is ∙ e)
     ]
 
-three : (c : Joined-lengths_ok) → let a = c.args in
+three : (c : Joined-lengths_ok) → let a = c.args.board in
     c.if-lengths_ok.value
     ≡ (sizes_ok a.sizes && lengths_ok a.sizes (memory a.words.now a.records.now a.places.now a.entries.now)
     && tables_ok a.sizes (memory [] a.records.now a.places.now a.entries.now))
@@ -40,7 +40,7 @@ room_ok-requires c = fit _ _ _ _ _ (sym (two (goal.at.room_ok-requires c).Joined
 
 pub lists_ok-requires : goal.lists_ok-requires
 lists_ok-requires c =
-    let a = c.args in
+    let a = c.args.board in
     let f = fit a.sizes a.words.now a.records.now a.places.now a.entries.now (and_0 _ _ (sym (three (goal.at.lists_ok-requires c).Joined-lengths_ok) ∙ c.if-room_ok.true)) in
     (f.places, f.tasks)
 

@@ -1,41 +1,30 @@
--- The faults among the records so far, counted: the records pass where there is none.
-use Prim.Native.Nat.{ℕ}
-use mathlib.Core.Path.{◌≡◌, refl, sym, ap, ◌∙◌}
-use native.Mathlib.Omega.{arith}
-use lib.ListN.{length}
-use lib.Dec.{eqb}
-use borrow.Author.Tests.{ne_eqb}
+-- The records pass where each does beside what is known of its owner.
+use Rattle.std.proofs.Common.{rules, ◌≡◌, ◌∙◌, Bool, false, length, get_or, refl, ap, ℕ, Bor, arith}
+use borrow.Author.Tests.{tests}
+use Rattle.std.specs.List.{list_all, zip}
+use Rattle.std.proofs.iter.Yields.{fronts}
+use Rattle.std.proofs.lemmas.Fn.{fold_over}
+use Rattle.std.proofs.lemmas.Iterator.{YieldsList-from_slice, YieldsList-from_zip, zips}
+use Rattle.std.proofs.lemmas.Slice.Zip.{length-zip, get_or-zip}
+use Rattle.memory.specs.Pieces.{held_of}
 use Rattle.memory.specs.Sound.{all_below}
+use Rattle.table_parts.specs.Parts.{record_ok}
+use Rattle.table_parts.proofs.Tests.{all_more, below-list, below_same}
 use Rattle.table_walk.specs.Walk.{records_ok}
-use Rattle.table_parts.proofs.Tests.{next_fault, next_good, refused, passed}
-use Rattle.table_walk.proofs.records_ok.Goals.{then-not-record_ok, else-not-record_ok}
 use Rattle.table_walk.proofs.records_ok.Goals as goal
 
-pub loop-r-init : goal.loop-r-init
-unfolding records_ok all_below
-loop-r-init c = record { within = omega arith; few = omega arith; found = refl }
-
-pub loop-r-preserved : goal.loop-r-preserved
-unfolding records_ok
-loop-r-preserved c =
-    let e = c.record_ok.ensures in
-    let f = c.loop-r.invariant.found in
-    elim c.if-not-record_ok.branch [
-      | then-not-record_ok w ↦
-          record {
-            within = omega arith;
-            few = omega arith;
-            found = next_fault _ _ (refused e w.if-not-record_ok.true) ∙ sym (ne_eqb c.if-not-record_ok.faults 0 (λ (h : c.if-not-record_ok.faults ≡ 0). omega arith));
-          }
-      | else-not-record_ok w ↦
-          record {
-            within = omega arith;
-            few = omega arith;
-            found = next_good _ _ (passed e w.if-not-record_ok.false) ∙ f ∙ ap (λ (x : ℕ). eqb x 0) (sym w.faults-is);
-          }
-    ]
+abbrev right : ℕ × Bool → Bool
+right p = record_ok (held_of p.0) p.1
 
 pub returns : goal.returns
+unfolding records_ok
 returns c =
-    let e : c.loop-r.r ≡ length c.args.records.now = omega arith in
-    sym (rw e at c.loop-r.invariant.found)
+    let rs = c.args.records.now in
+    let os = c.args.owned.now in
+    let told : c.fold.result ≡ list_all right (zip rs os) =
+    fold_over (zips fronts fronts) (λ (p : Bor ℕ × Bor Bool). (p.0.now, p.1.now)) _ (λ rows b. b ≡ list_all right rows) _
+    (λ ys a x b q j k. (all_more right ys (x.0.now, x.1.now) j (search (rules, tests)), search (rules, tests)))
+    c.zip.result _ _ _ (YieldsList-from_zip {s = c.zip.result} (YieldsList-from_slice rs cc) (YieldsList-from_slice os cc)).runs refl c.fold.ensures.ran in
+    let long : length (zip rs os) ≡ length rs = length-zip rs os ∙ omega (arith, c.requires) in
+    told ∙ below-list right (0, false) (zip rs os) ∙ ap (λ (n : ℕ). all_below n (λ r. right (get_or (zip rs os) r (0, false)))) long
+    ∙ below_same _ _ (length rs) (λ r h. ap right (get_or-zip rs os r (0, false) h (omega (arith, c.requires))))

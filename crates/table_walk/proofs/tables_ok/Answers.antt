@@ -232,7 +232,7 @@ all_good c = elim (ended (goal.at.Then-t-sizes c).Left-tasks).how [ inl w ↦ w 
 
 pub records_ok-requires : goal.records_ok-requires
 records_ok-requires c =
-    let p = c.requires.0 in (omega (arith, (all_good (goal.at.records_ok-requires c).Then-t-sizes).marked.size, p.held), omega (arith, p.held, p.most))
+    omega (arith, (all_good (goal.at.records_ok-requires c).Then-t-sizes).marked.size, c.requires.0.held)
 
 pub returns-then-t-sizes : goal.returns-then-t-sizes
 unfolding tables_ok

@@ -8,16 +8,10 @@ use Rattle.table_walk.proofs.tables_ok.Given as goal
 abbrev pub invariant-pairs : goal.invariant-pairs
 invariant-pairs l = PairsFound l.told l.address l.until l.j
 
-abbrev pub decreases-pairs : goal.decreases-pairs
-decreases-pairs l = l.until - l.j
-
 abbrev pub invariant-entries : goal.invariant-entries
 invariant-entries l =
     EntriesFound l.sizes (memory [] l.records l.places l.entries) l.t l.n l.base record { met = l.initial.met; owned = l.initial.owned } l.told
     record { met = l.met; owned = l.owned } l.top l.i
-
-abbrev pub decreases-entries : goal.decreases-entries
-decreases-entries l = l.n - l.i
 
 abbrev pub invariant-tasks : goal.invariant-tasks
 invariant-tasks l =

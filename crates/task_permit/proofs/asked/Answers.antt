@@ -10,8 +10,8 @@ returns-then-sizes-task c = λ ws rs es ok. permit_3 _ _ _ _ ok c.if-sizes-task.
 
 pub returns-then-allows : goal.returns-then-allows
 unfolding place
-returns-then-allows c = λ ws rs es ok. permit_0 _ _ _ _ ok (omega arith) _ c.place_of-place.ensures (sym c.allows.ensures ∙ c.if-allows.true)
+returns-then-allows c = λ ws rs es ok. permit_0 _ _ _ _ ok (omega arith) _ c.from-place.ensures (sym c.allows.ensures ∙ c.if-allows.true)
 
 pub returns-else-allows : goal.returns-else-allows
 unfolding place
-returns-else-allows c = λ ws rs es ok. permit_4 _ _ _ _ ok (omega arith) _ c.place_of-place.ensures (sym c.allows.ensures ∙ c.if-allows.false) _ c.too_early.ensures
+returns-else-allows c = λ ws rs es ok. permit_4 _ _ _ _ ok (omega arith) _ c.from-place.ensures (sym c.allows.ensures ∙ c.if-allows.false)

@@ -1,2 +1,0 @@
--- What the public calls share.
-pub mod Refusals

@@ -1,8 +1,0 @@
--- `memory::limit` meets its contract.
-use borrow.Author.Rules.{rules}
-use Rattle.memory.specs.Pieces.{limit}
-use Rattle.memory.proofs.limit.Goals as goal
-
-pub returns : goal.returns
-unfolding limit
-returns c = search rules

@@ -1,2 +1,0 @@
--- What the contracts of the code cite besides the reading itself.
-pub mod Contract

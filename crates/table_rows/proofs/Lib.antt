@@ -1,2 +1,0 @@
--- Laws of a phase's kind.
-pub mod OneKind

@@ -1,0 +1,2 @@
+-- What a search for an entry answers.
+pub mod Contract

@@ -1,9 +1,0 @@
--- `try_limits::board::carry` is safe and ends: each turn leaves fewer numbers, and the slice keeps its length.
-use Rattle.std.proofs.Common.{◌≡◌, ◌-◌, length}
-use Rattle.try_limits.proofs.board.carry.Given as goal
-
-abbrev pub invariant-loop-i : goal.invariant-loop-i
-invariant-loop-i l = length l.to ≡ length l.initial.to
-
-abbrev pub decreases-loop-i : goal.decreases-loop-i
-decreases-loop-i l = l.count - l.i
