@@ -113,6 +113,23 @@ impl Scene {
     }
 }
 
+/// Nanoseconds for a Read of a new word and then a Write of it, by a task that has so many entries once it has read. It is alone on a
+/// board of 128 words. After the Write the entry is dropped again.
+pub fn read_then_write(entries: usize) -> f64 {
+    let mut scene = Scene::open(128, 128, 2);
+    scene.must(TASK, Request::Start);
+    (1..entries).for_each(|address| scene.must(TASK, Request::Read(address)));
+    let (sizes, mut tables, place) = (scene.sizes, scene.tables.clone(), scene.tables.places[TASK]);
+    let requests = [Request::Read(0), Request::Write(0, 1)];
+    requests.into_iter().for_each(|request| scene.must(TASK, request));
+    nanoseconds(|| {
+        for request in requests {
+            let _ = black_box(ask_library(&mut tables, sizes, TASK, black_box(request)));
+        }
+        tables.places[TASK] = place;
+    })
+}
+
 /// A request of the measured task, and the requests that lead to it.
 pub struct Call {
     pub name: &'static str,

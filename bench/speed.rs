@@ -6,7 +6,7 @@ mod plot;
 #[allow(dead_code)]
 mod second_machine;
 
-use cases::{calls, checked_transaction, mutex_transaction, opening, unchecked_transaction, Scene};
+use cases::{calls, checked_transaction, mutex_transaction, opening, read_then_write, unchecked_transaction, Scene};
 use chezumobari::{ENTRIES_PER_TASK, MOST_RECORDS, MOST_TASKS, MOST_WORDS};
 use std::path::Path;
 use std::process::Command;
@@ -148,6 +148,11 @@ fn turn(boards: &Boards) -> String {
     all.map(|scene| format!("{} {}\n", scene.look(), checked_transaction(scene))).concat()
 }
 
+/// A word that is read and then written, by the number of the task's entries: a line for each.
+fn known() -> String {
+    [1, 8, ENTRIES_PER_TASK].map(|entries| format!("{entries} entries: {:.1} ns\n", read_then_write(entries))).concat()
+}
+
 /// The fastest of several turns of two programs, which are this one with two archives.
 fn by_turns(programs: [&str; 2]) -> Option<[Vec<f64>; 2]> {
     let mut best = [vec![f64::INFINITY; 2 * TURN.len()], vec![f64::INFINITY; 2 * TURN.len()]];
@@ -224,6 +229,10 @@ fn main() {
     let boards = boards();
     if std::env::args().any(|word| word == "--turn") {
         print!("{}", turn(&boards));
+        return;
+    }
+    if std::env::args().any(|word| word == "--known") {
+        print!("{}", known());
         return;
     }
     let machine = machine();

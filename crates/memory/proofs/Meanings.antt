@@ -18,7 +18,7 @@ use Rattle.memory.proofs.Facts.{sizes, lengths, record_ok, some_record, owner_ta
 use Rattle.memory.proofs.ListsLast.{lists_make}
 use Rattle.memory.proofs.ListsMean.{lists_told, lists_tested}
 use Rattle.memory.proofs.Lasts.{Task, On, task_of, task_make, owner_of, owner_make}
-use Rattle.memory.proofs.Find.{find?, index_found, index-some}
+use Rattle.memory.proofs.Find.{find?, index_found, index-some, address_found, address_some}
 use Rattle.memory.proofs.Fresh.{entry_in, agreed, one_entry}
 use Rattle.memory.proofs.Went.{not-steps}
 use Rattle.memory.proofs.OpenAnswers.{fits, fits_in}
@@ -215,43 +215,40 @@ module _ (z : Sizes) (m : Memory) (ok : sound z m ≡ true) (a : ℕ) where
     abbrev done : Bool
     done = committed (phase m t)
 
-    for_a : Entry → Bool
-    for_a e = eqb e.address a
-
     on_r : Entry → Bool
     on_r e = eqb (e.address % z.records) (a % z.records)
 
     -- what is seen, by whether there is an entry for the address
     sight : Bool → Seen
-    sight b = if b then shows done (get_or es (index for_a es) blank) else record { value = word; version = (shows done (get_or es (index on_r es) blank)).version }
+    sight b = if b then shows done (get_or es (index_of a es) blank) else record { value = word; version = (shows done (get_or es (index on_r es) blank)).version }
 
     owned : logical z m a ≡ owned_at z.records done es a word
     unfolding logical logical_at
     owned = ap (logical_at z m a) q
 
     with_entry : (e : Entry) → e ∈ es → e.address ≡ a → owned_at z.records done es a word ≡ shown (phase m t) e
-    unfolding owned_at index_of index_on for_a on_r sight
+    unfolding owned_at index_on on_r sight
     with_entry e k s =
-        let i : index for_a es < length es = index-some for_a es e k (eq-eqb _ _ s) in
-        let f = index_found for_a es i in
+        let i = address_some a es e k s in
+        let (f, q) = address_found a es i in
         ap sight (lt-ltb _ _ i)
-        ∙ ap (shows done) (one_entry z m ok t lt (get_or es (index for_a es) blank) e f.0 k (eqb-true _ _ f.1 ∙ sym s))
+        ∙ ap (shows done) (one_entry z m ok t lt (get_or es (index_of a es) blank) e f k (q ∙ sym s))
         ∙ shown-is (phase m t) e
 
     without : New z m t a → (e : Entry) → e ∈ es → e.address % z.records ≡ a % z.records
         → owned_at z.records done es a word ≡ record { value = word; version = (shown (phase m t) e).version }
-    unfolding owned_at index_of index_on for_a on_r sight
+    unfolding owned_at index_on on_r sight
     without new e k s =
         let i : index on_r es < length es = index-some on_r es e k (eq-eqb _ _ s) in
         let f = index_found on_r es i in
         let g : Entry = get_or es (index on_r es) blank in
         let c : g.address % z.records ≡ e.address % z.records = eqb-true _ _ f.1 ∙ sym s in
-        ap sight (absent (both (ltb (index for_a es) (length es))))
+        ap sight (absent (both (ltb (index_of a es) (length es))))
         ∙ ap (λ (v : ℕ). record { value = word; version = v })
         (shows-version done g e (agreed z m ok t lt g e f.0 k c) ∙ ap (λ (x : Seen). x.version) (shown-is (phase m t) e))
       where
-        absent : (ltb (index for_a es) (length es) ≡ true) ⊎ (ltb (index for_a es) (length es) ≡ false) → ltb (index for_a es) (length es) ≡ false
-        absent (inl d) = let f = index_found for_a es (ltb-true _ _ d) in absurd (new (get_or es (index for_a es) blank) f.0 (eqb-true _ _ f.1))
+        absent : (ltb (index_of a es) (length es) ≡ true) ⊎ (ltb (index_of a es) (length es) ≡ false) → ltb (index_of a es) (length es) ≡ false
+        absent (inl d) = let (f, q) = address_found a es (ltb-true _ _ d) in absurd (new _ f q)
         absent (inr d) = d
 
   pub logical-at : LogicalAt z m a (logical z m a)

@@ -8,7 +8,7 @@ use mathlib.Core.Bool.{false≢true}
 use lib.ListN.{length, get_or, replicate}
 use native.Mathlib.Omega.{arith}
 use borrow.Author.Tests.{eqb-false}
-use Rattle.memory.specs.{Sizes, Idle, Asleep, Version, Owner, Seen, Entry, Memory, memory, top_version, first_owner, kind_of, number_of, held, place, limit, entries, set_held, opened, Call, ST, CM, WT, SP, RD, WR, ours, leaves, small, board_after, sleeping, writes7, commits, late, upd, ◌∈◌, request}
+use Rattle.memory.specs.{Sizes, Idle, Asleep, Version, Owner, Seen, Entry, Memory, memory, top_version, first_owner, kind_of, number_of, held, place, limit, entries, blank, set_held, opened, Call, ST, CM, WT, SP, RD, WR, ours, leaves, small, board_after, sleeping, writes7, commits, late, upd, ◌∈◌, request}
 use Rattle.memory.specs.Slips.{read_keeps_second, write_keeps_second, thousand_in_write, opening_one_first, thousand_in_opening, thirty_one_tasks, asleep_answers_0, committer_untouched, waiter_untouched, sleeper_untouched, comer_untouched, comer_steals, ends_committed, wakes_and_takes, always_refuses, always_fails}
 use Rattle.memory.specs.SlipsRefuted.{SlipsAreRefuted}
 use Rattle.memory.proofs.Machine.{machine}
@@ -127,6 +127,8 @@ slips_are_refuted =
       passes_way_back_lem = passes_way_back_lem;
       sees_bare_word_lem = λ h.
           eqb-false 0 7 refl (ap (λ (s : Seen). s.value) ((h small (after (writes7 ++ commits 2)) refl 1).known 0 refl _ (Memᴰ.head refl) refl));
+      skips_newest_lem = λ h. eqb-false 1 0 refl (h 0 (blank ∷ []) (λ i j d k q. omega arith));
+      skips_oldest_lem = λ h. eqb-false 1 0 refl (h 0 (blank ∷ []) (λ i j d k q. omega arith));
       only_writers_lem = λ h. differ length ((h small 1 lent refl (map request (ST 0 ∷ CM 0 ∷ []))).decided 0 (omega arith) refl) refl;
       no_commit_lem = λ h. differ length ((h small 1 lent refl (map request (ST 0 ∷ CM 0 ∷ []))).decided 0 (omega arith) refl) refl;
       counts_no_writer_lem = λ h. eqb-false 2 1 refl (h small 1 lent refl (map request (writes7 ++ commits 2)) 1);

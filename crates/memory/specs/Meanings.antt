@@ -1,7 +1,9 @@
--- What the other claims lean on, in other words: the numbers that bound the pieces, a sound table, and the logical value and version.
-use Rattle.std.specs.Prelude.{ℕ, suc, ◌+◌, ◌*◌, ◌/◌, ◌%◌, ◌^◌, ◌<◌, ◌≤◌, ◌≡◌, ◌⊎◌, ◌≢◌, ◌↔◌, [], ◌∷◌, Bool, true, get_or}
+-- What the other claims lean on, in other words: the numbers that bound the pieces, a sound table, the logical value and version, and the
+-- search for an entry.
+use Rattle.std.specs.Prelude.{ℕ, suc, ◌+◌, ◌*◌, ◌/◌, ◌%◌, ◌^◌, ◌<◌, ◌≤◌, ◌≡◌, ◌⊎◌, ◌≢◌, ◌↔◌, List, [], ◌∷◌, Bool, true, length, get_or, eqb}
 use Rattle.memory.specs.Pieces.{Sizes, Goal, Commit, Sleep, Outcome, Committed, Failed, Woken, Phase, Idle, Open, Taking, Asleep, Writing, Releasing, Place, Version, Owner, Seen, Entry, Memory, place_of, row_of, place, bare, entry_of, row_of_entry, entry, entries, held, limit, run_start, most_words, most_records, most_tasks, top_version}
 use Rattle.memory.specs.Lists.{has}
+use Rattle.memory.specs.Logical.{index, blank}
 use Rattle.memory.specs.Sound.{sound}
 use Rattle.memory.specs.History.{◌∈◌}
 use Rattle.memory.specs.Ways.{Joined, Led}
@@ -120,3 +122,13 @@ LogicalMeans sees = (z : Sizes) (m : Memory) → sound z m ≡ true → (a : ℕ
 
 abbrev pub OneSight : Type 0
 OneSight = (f g : Sizes → Memory → ℕ → Seen) → LogicalMeans f → LogicalMeans g → (z : Sizes) (m : Memory) → sound z m ≡ true → (a : ℕ) → f z m a ≡ g z m a
+
+-- The search for an entry ---------------------------------------------------------------------------------------------------------
+
+-- §10.6: no two entries of a task are for one address.
+abbrev pub Distinct : List Entry → Type 0
+Distinct es = (i j : ℕ) → i < j → j < length es → (get_or es i blank).address ≢ (get_or es j blank).address
+
+-- Of a search for the entry for an address: it answers what the search from the oldest answers.
+abbrev pub SearchMeans : (ℕ → List Entry → ℕ) → Type 0
+SearchMeans search = (a : ℕ) (es : List Entry) → Distinct es → search a es ≡ index (λ e. eqb e.address a) es

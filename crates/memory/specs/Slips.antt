@@ -1,8 +1,8 @@
 -- §14: slips. More wrong machines, and wrong histories, each ours but for what its line says. SlipsLists has those of lists;
 -- SlipsRefuted says which claim each breaks.
-use Rattle.std.specs.Prelude.{ℕ, suc, ◌+◌, ◌*◌, ◌%◌, ◌≡◌, List, [], ◌∷◌, Bool, true, not, ◌&&◌, eqb, ltb, leb, replicate, if◌then◌else◌}
+use Rattle.std.specs.Prelude.{ℕ, suc, ◌+◌, ◌*◌, ◌-◌, ◌%◌, ◌≡◌, List, [], ◌∷◌, Bool, true, not, ◌&&◌, length, eqb, ltb, leb, replicate, if◌then◌else◌}
 use Rattle.memory.specs.Pieces.{Sizes, Commit, Sleep, Committed, Failed, Phase, Taking, Asleep, Writing, Releasing, Held, Version, Owner, Seen, Entry, Memory, memory, is, committed, position_of, code_of, phase_of, held, place, ended, entry, set_held, set_place, set_entry, move}
-use Rattle.memory.specs.Logical.{logical}
+use Rattle.memory.specs.Logical.{newest, index_of, logical}
 use Rattle.memory.specs.Sound.{all_below, sizes_ok, lengths_ok, task_ok}
 use Rattle.memory.specs.Numbers.{reply, refused}
 use Rattle.memory.specs.Requests.{looked, open_board, look, fresh, added, overtaken, known, store}
@@ -213,6 +213,13 @@ passes_any_owner z m = sizes_ok z && lengths_ok z m && all_below z.tasks (λ t. 
 -- A sight of the bare word, with the logical version.
 abbrev pub sees_bare_word : Sizes → Memory → ℕ → Seen
 sees_bare_word z m a = record { value = word m a; version = (logical z m a).version }
+
+-- A search that skips the newest entry; one that skips the oldest, for which it answers how many there are.
+abbrev pub skips_newest : ℕ → List Entry → ℕ
+skips_newest a es = newest (λ e. eqb e.address a) es (length es - 1)
+
+abbrev pub skips_oldest : ℕ → List Entry → ℕ
+skips_oldest a es = if eqb (index_of a es) 0 then length es else index_of a es
 
 -- Histories ----------------------------------------------------------------------------------------------------------------------
 

@@ -6,9 +6,9 @@ use Rattle.memory.specs.Kept.{RefusalsKeep, CallsAreNarrow, SoundLasts}
 use Rattle.memory.specs.Order.{Always, CommittedIsListed}
 use Rattle.memory.specs.Alone.{AloneItCommits}
 use Rattle.memory.specs.Whole.{ATryEnds, WholeTurnsComeThrough}
-use Rattle.memory.specs.Meanings.{SoundMeans, LogicalMeans}
+use Rattle.memory.specs.Meanings.{SoundMeans, LogicalMeans, SearchMeans}
 use Rattle.memory.specs.Wrong.{reading, writing}
-use Rattle.memory.specs.Slips.{start_resets_another, six_for_known, nine_before_six, sixty_three, six_before_five, read_keeps_second, write_keeps_second, reads_bare_word, eight_adds_entry, thousand_in_write, looks_bare_word, opening_one_first, thousand_in_opening, thirty_one_tasks, opens_entries_as_lent, opens_with_an_owner, asleep_answers_0, third_take_fails, rests_once, releases_early, invents_versions, commits_at_once, committer_untouched, waiter_untouched, sleeper_untouched, comer_untouched, comer_steals, ends_committed, wakes_and_takes, always_refuses, always_fails, changes_nothing, passes_any_owner, sees_bare_word, only_writers, no_commit, counts_no_writer}
+use Rattle.memory.specs.Slips.{start_resets_another, six_for_known, nine_before_six, sixty_three, six_before_five, read_keeps_second, write_keeps_second, reads_bare_word, eight_adds_entry, thousand_in_write, looks_bare_word, opening_one_first, thousand_in_opening, thirty_one_tasks, opens_entries_as_lent, opens_with_an_owner, asleep_answers_0, third_take_fails, rests_once, releases_early, invents_versions, commits_at_once, committer_untouched, waiter_untouched, sleeper_untouched, comer_untouched, comer_steals, ends_committed, wakes_and_takes, always_refuses, always_fails, changes_nothing, passes_any_owner, sees_bare_word, skips_newest, skips_oldest, only_writers, no_commit, counts_no_writer}
 use Rattle.memory.specs.SlipsLists.{wakes_one, takers_left, lists_kept, joins_any_version, differing_wakes, joins_taker, joins_last, idle_stays_listed, passes_way_back}
 
 pub record SlipsAreRefuted : Type 0 where
@@ -73,6 +73,8 @@ pub record SlipsAreRefuted : Type 0 where
   pub passes_any_owner_lem : SoundMeans passes_any_owner → ⊥
   pub passes_way_back_lem : SoundMeans passes_way_back → ⊥
   pub sees_bare_word_lem : LogicalMeans sees_bare_word → ⊥
+  pub skips_newest_lem : SearchMeans skips_newest → ⊥
+  pub skips_oldest_lem : SearchMeans skips_oldest → ⊥
   -- histories
   pub only_writers_lem : CommittedIsListed only_writers → ⊥
   pub no_commit_lem : CommittedIsListed no_commit → ⊥

@@ -18,15 +18,16 @@ pub fn run_of(sizes: Sizes, entries: &[EntryRow], task: usize, count: usize) -> 
     &entries[start..start + count]
 }
 
-// The first entry for an address. It and the next stay two: they are two lines each, and their laws are of two definitions.
+// The entry for an address, looked for from the newest to the oldest: who reads a word often writes it next.
+// It and the next stay two: they are two lines each, and their laws are of two definitions.
 pub fn find_address(run: &[EntryRow], address: u32) -> Option<Entry>
     ensures { result ≡ found (index_of address (map entry_of run.now)) (map entry_of run.now) }
 {
-    let row = run.iter().find(|row| row[0] == address);
+    let row = run.iter().rev().find(|row| row[0] == address);
     row.map(|row| Entry::from(*row))
 }
 
-// The first entry on a record.
+// The first entry on a record. All entries on a record agree in their versions, so which of them is found makes no difference.
 pub fn find_record(run: &[EntryRow], records: u32, record: u32) -> Option<Entry>
     requires { 0 < records }
     ensures { result ≡ found (index_on records «record» (map entry_of run.now)) (map entry_of run.now) }
