@@ -9,7 +9,7 @@ use lib.ListN.{length, get_or}
 use lib.Seq.{ext_get_or}
 use native.Mathlib.Omega.{arith}
 use borrow.Author.Tests.{ltb-true, ltb-false}
-use Rattle.memory.specs.{Sizes, Open, Place, Seen, Entry, Memory, memory, place, place_of, row_of, entry, entries, row_of_entry, limit, blank, logical, sound, may_join, Joined, ◌∈◌, KeepsOthers, phase, Fresh, Entered, Written, entry_row, StoredFrom}
+use Rattle.memory.specs.{Sizes, Open, Place, Seen, Entry, Memory, memory, place, place_of, row_of, task_set, entry, entries, row_of_entry, limit, blank, logical, sound, may_join, Joined, ◌∈◌, KeepsOthers, phase, Fresh, Entered, Written, entry_row, StoredFrom}
 use Rattle.memory.specs.Effects.{Goes}
 use Rattle.memory.proofs.Tools.{both, same?, everywhere}
 use Rattle.memory.proofs.Sets.{same_set}
@@ -88,9 +88,9 @@ module _ (z : Sizes) (m₁ m₂ : Memory) (ok₁ : sound z m₁ ≡ true) (ok₂
   -- places of one phase with one number of entries, on the lists of which one thing holds
   pub same_place : (u : ℕ) → u < z.tasks → (place m₁ u).count ≡ (place m₂ u).count → phase m₁ u ≡ phase m₂ u
       → (On : ℕ → Type 0) → ((w : ℕ) → Joined m₁ u w ↔ On w) → ((w : ℕ) → Joined m₂ u w ↔ On w) → place m₁ u ≡ place m₂ u
-  same_place u h c p On f g = λ i. record { count = c i; phase = p i; joins = sets i }
+  same_place u h c p On f g = λ i. record { count = c i; phase = p i; joins = task_set (sets i) }
     where
-      sets : (place m₁ u).joins ≡ (place m₂ u).joins
+      sets : (place m₁ u).joins.bits ≡ (place m₂ u).joins.bits
       sets =
           same_set z.tasks _ _ (joins_small z m₁ ok₁ u h) (joins_small z m₂ ok₂ u h)
           (λ w _. one_truth _ _ (λ j. (g w).1 ((f w).0 j)) (λ j. (f w).1 ((g w).0 j)))
@@ -110,14 +110,14 @@ module _ (z : Sizes) (m₁ m₂ : Memory) (ok₁ : sound z m₁ ≡ true) (ok₂
     pub same-stored : (from : ℕ) → t < z.tasks → StoredFrom from z m t m₁ → StoredFrom from z m t m₂ → phase m₁ t ≡ Open → phase m₂ t ≡ Open
         → entries z m₁ t ≡ entries z m₂ t → m₁ ≡ m₂
     same-stored from lt s₁ s₂ p₁ p₂ es =
-        same_after (λ i. record { count = counts i; phase = (p₁ ∙ sym p₂) i; joins = alone i })
+        same_after (λ i. record { count = counts i; phase = (p₁ ∙ sym p₂) i; joins = task_set (alone i) })
         (same_rows (λ u i h. everywhere (λ u. entry_row z m₁ u i ≡ entry_row z m₂ u i) t (own i h (both _) (both _)) (beside i h) u))
       where
         beside : (i : ℕ) → i < limit z → (u : ℕ) → u ≢ t → entry_row z m₁ u i ≡ entry_row z m₂ u i
         beside i h u ne = s₁.others u i ne h ∙ sym (s₂.others u i ne h)
 
         -- an Open task is on no list
-        alone : (place m₁ t).joins ≡ (place m₂ t).joins
+        alone : (place m₁ t).joins.bits ≡ (place m₂ t).joins.bits
         alone = no_joins z m₁ ok₁ t lt (ap may_join p₁) ∙ sym (no_joins z m₂ ok₂ t lt (ap may_join p₂))
 
         counts : (place m₁ t).count ≡ (place m₂ t).count

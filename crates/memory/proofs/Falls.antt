@@ -69,10 +69,10 @@ module _ (z : Sizes) (t : ℕ) (lt : t < z.tasks) (c : Memory) (ok : sound z c �
     clashed = meeting.1
 
     -- the takes put nobody on a list, and take nobody off
-    same_joins : (w : ℕ) → (place m w).joins ≡ (place c w).joins
+    same_joins : (w : ℕ) → (place m w).joins.bits ≡ (place c w).joins.bits
     same_joins =
-        everywhere (λ w. (place m w).joins ≡ (place c w).joins) t (ap (λ (q : Place). q.joins) T.standing.own)
-        (λ w ne. ap (λ (q : Place). q.joins) (T.standing.others w ne))
+        everywhere (λ w. (place m w).joins.bits ≡ (place c w).joins.bits) t (ap (λ (q : Place). q.joins.bits) T.standing.own)
+        (λ w ne. ap (λ (q : Place). q.joins.bits) (T.standing.others w ne))
 
     ends_so : (w : ℕ) → w ≢ t → EndsWith c u w (place c w) (place d w)
     ends_so w nt =

@@ -51,11 +51,11 @@ module _ (z : Sizes) (v₀ : ℕ) (m : Memory) (G : Notes) (good : Good z v₀ m
   same-run v c = ap (λ (k : List (List ℕ)). map entry_of (take c (drop (run_start z v) k))) (end_all-entries z m ends z.tasks)
 
   -- the lists that one of them is on afterwards
-  fewer : (q : Place) (w : ℕ) → has (ended_with z ends q).joins w ≡ true → (has q.joins w ≡ true) × (ends w ≡ true → ⊥)
+  fewer : (q : Place) (w : ℕ) → has (ended_with z ends q).joins.bits w ≡ true → (has q.joins.bits w ≡ true) × (ends w ≡ true → ⊥)
   unfolding ended_with
   fewer q w e =
-      let s = (in_set z.tasks (λ w. has q.joins w && not (ends w)) w e).1 in
-      (and_0 (has q.joins w) (not (ends w)) s, λ h. true≢false (sym h ∙ not-true _ (and_1 (has q.joins w) (not (ends w)) s)))
+      let s = (in_set z.tasks (λ w. has q.joins.bits w && not (ends w)) w e).1 in
+      (and_0 (has q.joins.bits w) (not (ends w)) s, λ h. true≢false (sym h ∙ not-true _ (and_1 (has q.joins.bits w) (not (ends w)) s)))
 
   each : (v : ℕ) → EndsOrStays ends S (view z m₁ G.logs).task v
   unfolding view ended_with
@@ -68,7 +68,7 @@ module _ (z : Sizes) (v₀ : ℕ) (m : Memory) (G : Notes) (good : Good z v₀ m
             hit = c;
             phase = phase_of_lem q;
             ents = ap (λ (k : Place). run z m₁ v k.count) q ∙ same-run v (place m v).count;
-            less = λ w e. fewer (place m v) w (subst (λ (k : Place). has k.joins w ≡ true) q e);
+            less = λ w e. fewer (place m v) w (subst (λ (k : Place). has k.joins.bits w ≡ true) q e);
           })
       go (inr c) =
           inl (

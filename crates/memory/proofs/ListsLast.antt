@@ -12,7 +12,7 @@ use Rattle.memory.proofs.Leads.{or_cases, leads_first, leads-grown}
 use Rattle.memory.proofs.Facts.{joins_small, joined_ok, none_on, no_way_back}
 
 pub record Lists (z : Sizes) (m : Memory) : Type 0 where
-  pub small : (t : ℕ) → t < z.tasks → (place m t).joins < 2 ^ z.tasks
+  pub small : (t : ℕ) → t < z.tasks → (place m t).joins.bits < 2 ^ z.tasks
   pub fit : (t w : ℕ) → t < z.tasks → Joined m t w → (wakes (place m w).phase ≡ true) × (may_join (place m t).phase ≡ true)
   pub ahead : (t : ℕ) → t < z.tasks → leads (on_list m) z.tasks t t ≡ true → ⊥
 
@@ -25,7 +25,7 @@ unfolding lists_ok joins_ok join_ok on_list
 lists_make z m L =
     and_make
     (below_make z.tasks (λ t. joins_ok z m t) (λ t h. and_make (lt-ltb _ _ (L.small t h))
-    (below_make z.tasks (λ w. join_ok m w t) (λ w k. guarded (has (place m t).joins w) _ (λ j. let f = L.fit t w h j in and_make f.0 f.1)))))
+    (below_make z.tasks (λ w. join_ok m w t) (λ w k. guarded (has (place m t).joins.bits w) _ (λ j. let f = L.fit t w h j in and_make f.0 f.1)))))
     (below_make z.tasks (λ t. not (leads (on_list m) z.tasks t t))
     (λ t h. ⊎_elim (λ e. absurd (L.ahead t h e)) (λ e. ap not e) (both (leads (on_list m) z.tasks t t))))
 
@@ -34,8 +34,8 @@ lists_make z m L =
 -- A task that does not sleep, so has no list, may come to a place q: whomever it has joined there sleeps, and then it may be on a list.
 pub record Fit (z : Sizes) (m : Memory) (t : ℕ) (q : Place) : Type 0 where
   pub awake : wakes (place m t).phase ≡ false
-  pub small : q.joins < 2 ^ z.tasks
-  pub joins : (w : ℕ) → has q.joins w ≡ true → (wakes (place m w).phase ≡ true) × (may_join q.phase ≡ true)
+  pub small : q.joins.bits < 2 ^ z.tasks
+  pub joins : (w : ℕ) → has q.joins.bits w ≡ true → (wakes (place m w).phase ≡ true) × (may_join q.phase ≡ true)
 
 module _ (z : Sizes) (m : Memory) (ok : sound z m ≡ true) (t : ℕ) where
   pub lists_step : (m' : Memory) → ((u : ℕ) → u ≢ t → place m' u ≡ place m u) → Fit z m t (place m' t) → lists_ok z m' ≡ true
@@ -47,16 +47,16 @@ module _ (z : Sizes) (m : Memory) (ok : sound z m ≡ true) (t : ℕ) where
             (leads-grown (on_list m) (on_list m') t no_list before z.tasks a a e);
       })
     where
-      small : (u : ℕ) → u < z.tasks → (u ≡ t) ⊎ (u ≢ t) → (place m' u).joins < 2 ^ z.tasks
-      small u h (inl e) = subst⁻¹ (λ (x : ℕ). (place m' x).joins < 2 ^ z.tasks) e F.small
-      small u h (inr ne) = subst⁻¹ (λ (q : Place). q.joins < 2 ^ z.tasks) (others u ne) (joins_small z m ok u h)
+      small : (u : ℕ) → u < z.tasks → (u ≡ t) ⊎ (u ≢ t) → (place m' u).joins.bits < 2 ^ z.tasks
+      small u h (inl e) = subst⁻¹ (λ (x : ℕ). (place m' x).joins.bits < 2 ^ z.tasks) e F.small
+      small u h (inr ne) = subst⁻¹ (λ (q : Place). q.joins.bits < 2 ^ z.tasks) (others u ne) (joins_small z m ok u h)
 
       fit : (u w : ℕ) → (u ≡ t) ⊎ (u ≢ t) → Joined m' u w → (wakes (place m w).phase ≡ true) × (may_join (place m' u).phase ≡ true)
       fit u w (inl e) j =
           let k = F.joins w (subst (λ (x : ℕ). Joined m' x w) e j) in
           (k.0, subst⁻¹ (λ (x : ℕ). may_join (place m' x).phase ≡ true) e k.1)
       fit u w (inr ne) j =
-          let k = joined_ok z m ok u w (subst (λ (q : Place). has q.joins w ≡ true) (others u ne) j) in
+          let k = joined_ok z m ok u w (subst (λ (q : Place). has q.joins.bits w ≡ true) (others u ne) j) in
           (k.0, subst⁻¹ (λ (q : Place). may_join q.phase ≡ true) (others u ne) k.1)
 
       -- a sleeper is another task, and sleeps on
@@ -75,13 +75,13 @@ module _ (z : Sizes) (m : Memory) (ok : sound z m ≡ true) (t : ℕ) where
 
       before : (a b : ℕ) → on_list m' a b ≡ true → (b ≡ t) ⊎ (on_list m a b ≡ true)
       before a b e = unfold on_list in
-          ⊎_elim (λ q. inl q) (λ ne. inr (subst (λ (q : Place). has q.joins a ≡ true) (others b ne) e)) (same? b t)
+          ⊎_elim (λ q. inl q) (λ ne. inr (subst (λ (q : Place). has q.joins.bits a ≡ true) (others b ne) e)) (same? b t)
 
   -- The places to which it may come --------------------------------------------------------------------------------------------------
 
   module _ (lt : t < z.tasks) (awake : wakes (place m t).phase ≡ false) where
     -- on the lists on which it is, on none, and on that of one sleeper more
-    pub fit_kept : (q : Place) → q.joins ≡ (place m t).joins → (may_join (place m t).phase ≡ true → may_join q.phase ≡ true) → Fit z m t q
+    pub fit_kept : (q : Place) → q.joins.bits ≡ (place m t).joins.bits → (may_join (place m t).phase ≡ true → may_join q.phase ≡ true) → Fit z m t q
     fit_kept q e f =
         record {
           awake = awake;
@@ -96,11 +96,11 @@ module _ (z : Sizes) (m : Memory) (ok : sound z m ≡ true) (t : ℕ) where
     pub fit_joined : (u : ℕ) (p : Phase) → wakes (place m u).phase ≡ true → may_join p ≡ true → Fit z m t (joined z u (place m t) p)
     unfolding joined
     fit_joined u p s f =
-        record { awake = awake; small = set-small z.tasks on; joins = λ w j. (sleeps w (or_cases (eqb w u) (has (place m t).joins w) (in_set z.tasks on w j).1), f) }
+        record { awake = awake; small = set-small z.tasks on; joins = λ w j. (sleeps w (or_cases (eqb w u) (has (place m t).joins.bits w) (in_set z.tasks on w j).1), f) }
       where
         on : ℕ → Bool
-        on w = eqb w u || has (place m t).joins w
+        on w = eqb w u || has (place m t).joins.bits w
 
-        sleeps : (w : ℕ) → (eqb w u ≡ true) ⊎ (has (place m t).joins w ≡ true) → wakes (place m w).phase ≡ true
+        sleeps : (w : ℕ) → (eqb w u ≡ true) ⊎ (has (place m t).joins.bits w ≡ true) → wakes (place m w).phase ≡ true
         sleeps w (inl e) = ap (λ (x : ℕ). wakes (place m x).phase) (eqb-true w u e) ∙ s
         sleeps w (inr j) = (joined_ok z m ok t w j).0

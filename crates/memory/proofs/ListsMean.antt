@@ -45,7 +45,7 @@ module _ (z : Sizes) (m : Memory) where
           (λ e. leads_on (on_list m) z.tasks t w t (joined_small z m ok t w j) e link)
           (or_cases (eqb w t) (leads (on_list m) z.tasks t w) (unfold ends_with in led_ends m z (joined_small z m ok) t w l)))
 
-  pub lists_tested : ((t : ℕ) → t < z.tasks → (place m t).joins < 2 ^ z.tasks) → ((t w : ℕ) → t < z.tasks → Joined m t w → SoundJoin m t w) → Lists z m
+  pub lists_tested : ((t : ℕ) → t < z.tasks → (place m t).joins.bits < 2 ^ z.tasks) → ((t w : ℕ) → t < z.tasks → Joined m t w → SoundJoin m t w) → Lists z m
   lists_tested small S =
       record {
         small = small;

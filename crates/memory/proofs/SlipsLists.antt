@@ -111,7 +111,7 @@ joins_last_lem h =
 
 pub idle_stays_listed_lem : StepsLeave idle_stays_listed → ⊥
 unfolding machine trio read_at table hers released
-idle_stays_listed_lem h = differ (λ (q : Place). q.joins) ((h trio released 2 refl (omega arith)).0 refl).own refl
+idle_stays_listed_lem h = differ (λ (q : Place). q.joins.bits) ((h trio released 2 refl (omega arith)).0 refl).own refl
 
 pub passes_way_back_lem : SoundMeans passes_way_back → ⊥
 unfolding machine trio read_at table way_back

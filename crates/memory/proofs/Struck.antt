@@ -32,7 +32,7 @@ failed_clashed q c = record { count = refl; phase = sym (ap (λ (b : Bool). if b
 ended_clashed : (z : Sizes) (ends : ℕ → Bool) (q : Place) → Clashed q (ended_with z ends q)
 unfolding ended_with
 ended_clashed z ends q =
-    record { count = refl; phase = refl; joins = λ w j. and_0 (has q.joins w) (not (ends w)) (in_set z.tasks _ w j).1 }
+    record { count = refl; phase = refl; joins = λ w j. and_0 (has q.joins.bits w) (not (ends w)) (in_set z.tasks _ w j).1 }
 
 module _ (z : Sizes) (m : Memory) (ok : sound z m ≡ true) (w : ℕ) (inside : w < length m.places) where
   -- a row is as it was, or it is of one to whom the list leads
@@ -90,16 +90,16 @@ module _ (z : Sizes) (m : Memory) (ok : sound z m ≡ true) (u : ℕ) where
   not_led v none = ⊎_elim (λ e. absurd (none (ends_led m z u v e))) (λ e. e) (both (ends_with z m u v))
 
   -- one who is woken with the sleeper u, or failed with it
-  ended-ends : (q : Place) → q.joins < 2 ^ z.tasks → Ending m u q (ended_with z (ends_with z m u) q)
+  ended-ends : (q : Place) → q.joins.bits < 2 ^ z.tasks → Ending m u q (ended_with z (ends_with z m u) q)
   unfolding ended_with
   ended-ends q small =
       record {
         count = refl;
         phase = ending-struck q.phase;
         joins = λ w. (
-          λ j. let k = (in_set z.tasks (λ w. has q.joins w && not (ends_with z m u w)) w j).1 in
-              (and_0 (has q.joins w) _ k, λ l. true≢false (sym (led_in w l) ∙ not-true _ (and_1 (has q.joins w) _ k))),
-          λ k. set_in z.tasks (λ w. has q.joins w && not (ends_with z m u w)) w (small_in z.tasks q.joins w small k.0)
+          λ j. let k = (in_set z.tasks (λ w. has q.joins.bits w && not (ends_with z m u w)) w j).1 in
+              (and_0 (has q.joins.bits w) _ k, λ l. true≢false (sym (led_in w l) ∙ not-true _ (and_1 (has q.joins.bits w) _ k))),
+          λ k. set_in z.tasks (λ w. has q.joins.bits w && not (ends_with z m u w)) w (small_in z.tasks q.joins.bits w small k.0)
               (and_make k.0 (ap not (not_led w k.1))),
         );
       }
@@ -186,16 +186,16 @@ one_version z m ok t i u e =
 
 -- Who joins a sleeper ---------------------------------------------------------------------------------------------------------------------
 
-pub joined_joins : (z : Sizes) (u : ℕ) (q : Place) (i : ℕ) → q.joins < 2 ^ z.tasks → u < z.tasks → Joining u i q (joined z u q (Taking Sleep (suc i)))
+pub joined_joins : (z : Sizes) (u : ℕ) (q : Place) (i : ℕ) → q.joins.bits < 2 ^ z.tasks → u < z.tasks → Joining u i q (joined z u q (Taking Sleep (suc i)))
 unfolding joined
 joined_joins z u q i small h =
-    let on : ℕ → Bool = λ w. eqb w u || has q.joins w in
+    let on : ℕ → Bool = λ w. eqb w u || has q.joins.bits w in
     record {
       count = refl;
       phase = refl;
       joins = λ w. (
-        λ j. ⊎_elim (λ e. inl (eqb-true w u e)) (λ e. inr e) (or_cases (eqb w u) (has q.joins w) (in_set z.tasks on w j).1),
-        ⊎_elim (λ e. set_in z.tasks on w (omega (arith, h, e)) (or_left_make (has q.joins w) (eq-eqb w u e)))
-            (λ e. set_in z.tasks on w (small_in z.tasks q.joins w small e) (or_right_make (eqb w u) e)),
+        λ j. ⊎_elim (λ e. inl (eqb-true w u e)) (λ e. inr e) (or_cases (eqb w u) (has q.joins.bits w) (in_set z.tasks on w j).1),
+        ⊎_elim (λ e. set_in z.tasks on w (omega (arith, h, e)) (or_left_make (has q.joins.bits w) (eq-eqb w u e)))
+            (λ e. set_in z.tasks on w (small_in z.tasks q.joins.bits w small e) (or_right_make (eqb w u) e)),
       );
     }

@@ -142,12 +142,12 @@ module _ (z : Sizes) (m : Memory) (t : ℕ) (lt : t < z.tasks) (ok : sound z m �
     joined-before : (w v : ℕ) → Joined c w v → Joined m w v
     joined-before =
         everywhere (λ w. (v : ℕ) → Joined c w v → Joined m w v) t (λ v j. absurd (on_none z c C.ok t (ap may_join C.taking) v j))
-        (λ w ne v j. subst (λ (q : Place). has q.joins v ≡ true) (same_place w ne) j)
+        (λ w ne v j. subst (λ (q : Place). has q.joins.bits v ≡ true) (same_place w ne) j)
 
     joined-after : (w v : ℕ) → Joined m w v → Joined c w v
     joined-after =
         everywhere (λ w. (v : ℕ) → Joined m w v → Joined c w v) t (λ v j. absurd (on_none z m ok t (ap may_join idle) v j))
-        (λ w ne v j. subst⁻¹ (λ (q : Place). has q.joins v ≡ true) (same_place w ne) j)
+        (λ w ne v j. subst⁻¹ (λ (q : Place). has q.joins.bits v ≡ true) (same_place w ne) j)
 
     ends : (w : ℕ) → w ≢ t → EndsWith m u w (place m w) (place m' w)
     ends w ne =

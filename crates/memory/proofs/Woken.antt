@@ -114,10 +114,10 @@ module _ (z : Sizes) (m : Memory) (ok : sound z m ≡ true) (u : ℕ) where
   left : (v w : ℕ) → Joined m' v w → Joined m v w × (ends w ≡ false)
   unfolding ended_with
   left v w =
-      woken_places (λ v q. has q.joins w ≡ true → Joined m v w × (ends w ≡ false))
+      woken_places (λ v q. has q.joins.bits w ≡ true → Joined m v w × (ends w ≡ false))
       (λ v h e j.
-      let k = (in_set z.tasks (λ w. has (place m v).joins w && not (ends w)) w j).1 in
-      (and_0 (has (place m v).joins w) (not (ends w)) k, not-true (ends w) (and_1 (has (place m v).joins w) (not (ends w)) k)))
+      let k = (in_set z.tasks (λ w. has (place m v).joins.bits w && not (ends w)) w j).1 in
+      (and_0 (has (place m v).joins.bits w) (not (ends w)) k, not-true (ends w) (and_1 (has (place m v).joins.bits w) (not (ends w)) k)))
       (λ v h j. (j, ⊎_elim (λ e. absurd (true≢false (sym (ends_on m z (joined_small z m ok) u w v e j) ∙ h (joined_in z m ok v w j).0))) (λ e. e) (both (ends w)))) v
 
   woken_lists : lists_ok z m' ≡ true
@@ -131,9 +131,9 @@ module _ (z : Sizes) (m : Memory) (ok : sound z m ≡ true) (u : ℕ) where
         ahead = λ v h e. no_way_back z m ok v (leads_less (on_list m) (on_list m') (λ a b j. unfold on_list in (left b a j).0) z.tasks v v e);
       })
     where
-      small : (v : ℕ) → v < z.tasks → (place m' v).joins < 2 ^ z.tasks
+      small : (v : ℕ) → v < z.tasks → (place m' v).joins.bits < 2 ^ z.tasks
       small = unfold ended_with in
-          woken_places (λ v q. v < z.tasks → q.joins < 2 ^ z.tasks) (λ v h e k. set-small z.tasks _) (λ v h k. joins_small z m ok v k)
+          woken_places (λ v q. v < z.tasks → q.joins.bits < 2 ^ z.tasks) (λ v h e k. set-small z.tasks _) (λ v h k. joins_small z m ok v k)
 
   pub woken_sound : sound z m' ≡ true
   woken_sound =

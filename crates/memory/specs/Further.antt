@@ -1,7 +1,7 @@
 -- Further positions beside K1 to K11, as two lists: a sleeper's steps, clashes, refusals, and each limit at its number and one past
 -- it; and several asleep on one record.
 use Rattle.std.specs.Prelude.{ℕ, zero, suc, ◌*◌, List, [], ◌∷◌, ◌++◌, Bool, true, false, ◌&&◌, drop, replicate, if◌then◌else◌}
-use Rattle.memory.specs.Pieces.{Sizes, Memory, memory, Failed, Woken, Phase, Idle, Open, Asleep, Writing, Releasing, place, bare, row_of}
+use Rattle.memory.specs.Pieces.{Sizes, Memory, memory, Failed, Woken, Phase, Idle, Open, Asleep, Writing, Releasing, place, bare, task_set, row_of}
 use Rattle.memory.specs.Sound.{row_eqb}
 use Rattle.memory.specs.Requests.{open_board}
 use Rattle.memory.specs.Calls.{Call, ST, CM, AB, WT, SP, RD, WR}
@@ -107,7 +107,7 @@ seated = record { words = 4; records = 2; tasks = 4 }
 
 -- the row of a task with so many entries, in a phase, which has joined a set of sleepers: 2 is that of task 1, 4 that of task 2
 unfoldable pub row_on : ℕ → Phase → ℕ → List ℕ
-row_on n p s = row_of (record { count = n; phase = p; joins = s })
+row_on n p s = row_of (record { count = n; phase = p; joins = task_set s })
 
 -- the rows of tasks 1, 2 and 3 after calls; and the numbers of further calls
 unfoldable pub rows_after : Memory → List Call → List ℕ

@@ -37,7 +37,7 @@ pub record KeepsOthers (z : Sizes) (m : Memory) (t : ℕ) (m' : Memory) : Type 0
 pub record Clashed (q q' : Place) : Type 0 where
   pub count : q'.count ≡ q.count
   pub phase : q'.phase ≡ ending q.phase
-  pub joins : (w : ℕ) → has q'.joins w ≡ true → has q.joins w ≡ true
+  pub joins : (w : ℕ) → has q'.joins.bits w ≡ true → has q.joins.bits w ≡ true
 
 -- a step: no entry; one word or one record; its own place, and those of the one owner which it met and of whoever
 -- ends with it

@@ -19,7 +19,7 @@ set_of (suc n) p = bit (p 0) + 2 * set_of n (λ t. p (suc t))
 
 -- §2.14: task t is on the list of task w.
 unfoldable pub on_list : Memory → ℕ → ℕ → Bool
-on_list m w t = has (place m t).joins w
+on_list m w t = has (place m t).joins.bits w
 
 -- §2.15: going from list to list leads from a to b, with no task between them but some below k.
 unfoldable pub leads : (ℕ → ℕ → Bool) → ℕ → ℕ → ℕ → Bool

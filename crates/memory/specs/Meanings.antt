@@ -34,7 +34,7 @@ pub record Layout : Type 0 where
   pub failed : (n i : ℕ) → row_of (bare n (Releasing Failed i)) ≡ n ∷ 7 ∷ i ∷ 0 ∷ []
   pub woken : (n i : ℕ) → row_of (bare n (Releasing Woken i)) ≡ n ∷ 8 ∷ i ∷ 0 ∷ []
   -- the fourth number is the set of the sleepers that it joined: the task of each binary digit that is 1
-  pub joined : (q : Place) → get_or (row_of q) 3 0 ≡ q.joins
+  pub joined : (q : Place) → get_or (row_of q) 3 0 ≡ q.joins.bits
   pub set : (s t : ℕ) → (has s t ≡ true) ↔ (s / 2 ^ t % 2 ≡ 1)
   pub place_read_back : (q : Place) → place_of (row_of q) ≡ q
   pub entry : (e : Entry) → row_of_entry e ≡ e.address ∷ e.old.value ∷ e.new.value ∷ e.old.version ∷ e.new.version ∷ []
@@ -85,7 +85,7 @@ pub record SoundTable (z : Sizes) (m : Memory) : Type 0 where
   pub each_task : (t : ℕ) → t < z.tasks → SoundTask z m t
   pub versions : (r v : ℕ) → r < z.records → held m r ≡ Version v → (1 ≤ v) × (v ≤ top_version)
   pub owners : (r t : ℕ) → r < z.records → held m r ≡ Owner t → SoundOwner z m r t
-  pub joins : (t : ℕ) → t < z.tasks → (place m t).joins < 2 ^ z.tasks
+  pub joins : (t : ℕ) → t < z.tasks → (place m t).joins.bits < 2 ^ z.tasks
   pub lists : (t w : ℕ) → t < z.tasks → Joined m t w → SoundJoin m t w
 
 -- Of a test: it passes exactly the sound tables. There is one such test.

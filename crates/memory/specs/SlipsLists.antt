@@ -1,6 +1,6 @@
 -- §14: slips of the lists of those who sleep with another (§2.14, §7.8, §7.17), each ours but for what its line says.
 use Rattle.std.specs.Prelude.{ℕ, zero, suc, ◌-◌, Bool, not, ◌&&◌, eqb, ltb, leb, if◌then◌else◌}
-use Rattle.memory.specs.Pieces.{Sizes, Sleep, Failed, Woken, Phase, Taking, Releasing, Place, Memory, is, held, place, ended, set_place, move}
+use Rattle.memory.specs.Pieces.{Sizes, Sleep, Failed, Woken, Phase, Taking, Releasing, Place, Memory, is, held, place, ended, task_set, set_place, move}
 use Rattle.memory.specs.Sound.{all_below, held_ok, joins_ok}
 use Rattle.memory.specs.Step.{fails, wakes, clash, joined}
 use Rattle.memory.specs.Machines.{Machine}
@@ -15,7 +15,7 @@ replaced (suc k) f x = let y = replaced k f x in set_place y k (f k (place y k))
 
 -- a place on other lists
 abbrev pub listed_on : ℕ → Place → Place
-listed_on s q = record { count = q.count; phase = q.phase; joins = s }
+listed_on s q = record { count = q.count; phase = q.phase; joins = task_set s }
 
 -- a twist of the clash that wakes the sleeper u; of the step that would sleep and fails at another's record
 abbrev pub rousing : (Sizes → Memory → ℕ → ℕ → Memory → Memory) → Machine
@@ -38,7 +38,7 @@ takers_left = rousing (λ z m t u x. replaced z.tasks (λ v q. if fails (phase m
 
 -- They all end, and stay on the lists on which they were.
 abbrev pub lists_kept : Machine
-lists_kept = rousing (λ z m t u x. replaced z.tasks (λ v q. listed_on (place m v).joins q) x)
+lists_kept = rousing (λ z m t u x. replaced z.tasks (λ v q. listed_on (place m v).joins.bits q) x)
 
 -- A sleeper is joined whatever version it has seen.
 abbrev pub joins_any_version : Machine
@@ -56,13 +56,13 @@ joins_taker = failing_to_sleep fails joins_it
 abbrev pub joins_last : Machine
 joins_last =
     stepping (changing (λ z m t x.
-    let before = (place m t).joins in
-    let after = (place x t).joins in
+    let before = (place m t).joins.bits in
+    let after = (place x t).joins.bits in
     if ltb before after then set_place x t (listed_on (after - before) (place x t)) else x))
 
 -- A task that goes Idle stays on its lists.
 abbrev pub idle_stays_listed : Machine
-idle_stays_listed = stepping (λ z m t r. if leb 21 r.number then over (set_place r.after t (listed_on (place m t).joins ended)) r else r)
+idle_stays_listed = stepping (λ z m t r. if leb 21 r.number then over (set_place r.after t (listed_on (place m t).joins.bits ended)) r else r)
 
 -- A test of soundness that looks at who is on which list, and not where the lists lead: a way back passes.
 abbrev pub passes_way_back : Sizes → Memory → Bool

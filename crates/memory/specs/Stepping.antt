@@ -118,7 +118,7 @@ Failing q q' = q' ≡ moved q (Releasing Failed 0)
 pub record Joining (u i : ℕ) (q q' : Place) : Type 0 where
   pub count : q'.count ≡ q.count
   pub phase : q'.phase ≡ Taking Sleep (suc i)
-  pub joins : (w : ℕ) → (has q'.joins w ≡ true) ↔ ((w ≡ u) ⊎ (has q.joins w ≡ true))
+  pub joins : (w : ℕ) → (has q'.joins.bits w ≡ true) ↔ ((w ≡ u) ⊎ (has q.joins.bits w ≡ true))
 
 -- §7.7: an owner that is met, or one who ends with it: one that takes fails, one that sleeps is woken, any other goes on as if nothing
 -- had been
@@ -134,7 +134,7 @@ struck (Releasing o i) = Releasing o i
 pub record Ending (m : Memory) (u : ℕ) (q q' : Place) : Type 0 where
   pub count : q'.count ≡ q.count
   pub phase : q'.phase ≡ struck q.phase
-  pub joins : (w : ℕ) → (has q'.joins w ≡ true) ↔ ((has q.joins w ≡ true) × (Led m u w → ⊥))
+  pub joins : (w : ℕ) → (has q'.joins.bits w ≡ true) ↔ ((has q.joins.bits w ≡ true) × (Led m u w → ⊥))
 
 -- the owner u ends, with all to whom its list leads, and nobody else does
 abbrev pub EndsWith : Memory → ℕ → ℕ → Place → Place → Type 0

@@ -5,7 +5,7 @@ use Rattle.memory.specs.Lists.{has}
 
 -- the task t has joined the sleeper w, and so is on its list
 abbrev pub Joined : Memory → ℕ → ℕ → Type 0
-Joined m t w = has (place m t).joins w ≡ true
+Joined m t w = has (place m t).joins.bits w ≡ true
 
 -- u itself, and whoever is on the list of one to whom it leads
 pub data Led (m : Memory) (u : ℕ) : ℕ → Type 0 where

@@ -1,28 +1,17 @@
 // A set of tasks (§2.13), held as one number: whether a task is in it, the set with a task more, the set without those of another.
 ghost use Rattle.std.specs.Prelude.{◌≡◌, ◌&&◌, ◌||◌, not, ℕ, ◌<◌, eqb, bit_or};
 ghost use Rattle.memory.specs.Lists as spec;
-ghost use Rattle.memory.specs.Pieces.{most_tasks};
+ghost use Rattle.memory.specs.Pieces.{most_tasks, no_tasks, task_set};
 
-use std::marker::Model;
-
+// Every number is a set, and a clause names it. There is no `impl Model`: what holds a value with a model is not copied.
 #[derive(Clone, Copy, PartialEq, Eq)]
 pub struct TaskSet {
-    bits: u32,
-}
-
-impl Model for TaskSet {
-    ghost use Rattle.std.specs.Prelude.{ℕ};
-
-    ghost Value = { ℕ };
-
-    ghost view = { λ set. set.bits };
-
-    ghost inverse = { λ bits. record { bits = bits } };
+    pub bits: u32,
 }
 
 // §3.4: a set as it stands in a task's row, and back.
 impl From<u32> for TaskSet {
-    ghost from_gives = { λ bits set. set ≡ bits };
+    ghost from_gives = { λ bits set. set ≡ task_set bits };
 
     fn from(bits: u32) -> TaskSet {
         TaskSet { bits }
@@ -30,7 +19,7 @@ impl From<u32> for TaskSet {
 }
 
 impl From<TaskSet> for u32 {
-    ghost from_gives = { λ set bits. bits ≡ set };
+    ghost from_gives = { λ set bits. bits ≡ set.bits };
 
     fn from(set: TaskSet) -> u32 {
         set.bits
@@ -39,13 +28,13 @@ impl From<TaskSet> for u32 {
 
 impl TaskSet {
     pub fn none() -> TaskSet
-        ensures { result ≡ 0 }
+        ensures { result ≡ no_tasks }
     {
         TaskSet { bits: 0 }
     }
 
     pub fn is_none(self) -> bool
-        ensures { result ≡ eqb self 0 }
+        ensures { result ≡ eqb self.bits 0 }
     {
         self.bits == 0
     }
@@ -54,7 +43,7 @@ impl TaskSet {
     #[tactic(auto, using(crate::proofs::Bits::has_tested))]
     pub fn has(self, task: usize) -> bool
         requires { task < most_tasks }
-        ensures { result ≡ spec.has self task }
+        ensures { result ≡ spec.has self.bits task }
     {
         self.bits >> task as u32 & 1 == 1
     }
@@ -63,7 +52,7 @@ impl TaskSet {
     #[tactic(auto, using(crate::proofs::Bits::has_with))]
     pub fn with(self, task: usize) -> TaskSet
         requires { task < most_tasks }
-        ensures { (w : ℕ) → spec.has result w ≡ (eqb w task || spec.has self w) }
+        ensures { (w : ℕ) → spec.has result.bits w ≡ (eqb w task || spec.has self.bits w) }
     {
         let one: u32 = 1;
         TaskSet {
@@ -73,7 +62,7 @@ impl TaskSet {
 
     // The set with those of another.
     pub fn with_all(self, others: TaskSet) -> TaskSet
-        ensures { result ≡ bit_or self others }
+        ensures { result ≡ task_set (bit_or self.bits others.bits) }
     {
         TaskSet {
             bits: self.bits | others.bits,
@@ -83,8 +72,8 @@ impl TaskSet {
     // The set without those of another. Its number, like that of every set, has 32 bits.
     #[tactic(auto, using(crate::proofs::Bits::has_without))]
     pub fn without(self, others: TaskSet) -> TaskSet
-        ensures left { (w : ℕ) → spec.has result w ≡ (spec.has self w && not (spec.has others w)) }
-        ensures short { (self < 4294967296) × (result < 4294967296) }
+        ensures left { (w : ℕ) → spec.has result.bits w ≡ (spec.has self.bits w && not (spec.has others.bits w)) }
+        ensures short { (self.bits < 4294967296) × (result.bits < 4294967296) }
     {
         let both = self.bits & others.bits;
         TaskSet {

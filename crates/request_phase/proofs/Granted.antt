@@ -14,7 +14,7 @@ use Rattle.memory.specs.declared.Answer.{Answer}
 use Rattle.memory.specs.declared.Goal.TheVariants.{Sleep}
 use Rattle.memory.specs.declared.Phase.TheVariants.{Taking}
 use Rattle.memory.specs.declared.refusal.Refusal.{Refusal}
-use Rattle.memory.specs.Pieces.{Memory, memory, is_open, position_of, place, moved, set_place, move}
+use Rattle.memory.specs.Pieces.{Memory, memory, is_open, position_of, place, ended, moved, set_place, move}
 use Rattle.memory.specs.Sound.{sound}
 use Rattle.memory.specs.Numbers.{Reply, reply, replied, refused, refusal_number, asked}
 use Rattle.memory.specs.Requests.{wait}
@@ -22,6 +22,10 @@ use Rattle.memory.proofs.Facts.{counts, in_places}
 use Rattle.memory.proofs.Limits.{limit_most}
 use Rattle.task_permit.specs.Contract.{Permits, answered}
 use Rattle.task_permit.proofs.Cases.{permit}
+
+-- a place without a transaction fits a row
+pub no_transaction_fits : {t n : ℕ} {x : Place} → t < n → x ≡ ended → (t < n) × (x.count < 4294967296) × (position_of x.phase < 4294967296)
+no_transaction_fits h made = (h, rw made (omega arith), rw made (omega arith))
 
 -- Of a sound table, and the permit that a request got there: it is the same whatever the other tables hold.
 module _ (z : Sizes) (m : Memory) (ok : sound z m ≡ true) (t : ℕ) (allows : Phase → Bool) (got : Result Place Refusal)

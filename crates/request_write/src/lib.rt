@@ -60,9 +60,9 @@ fn write_new(
     if at_top(entry) {
         return Err(Refusal::NoVersion);
     }
-    let all = place.count + 1;
+    // The place is passed on by value and used again: it is copied, which it would not be if a part of it had a model.
     task_descriptor::add_entry(sizes, places, entries, task, place, entry);
-    task_descriptor::write_run(sizes, entries, task, all, address, value);
+    task_descriptor::write_run(sizes, entries, task, place.count + 1, address, value);
     Ok(Answer::plain(0))
 }
 

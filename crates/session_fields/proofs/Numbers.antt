@@ -1,8 +1,8 @@
 -- A little-endian number byte by byte.
 use Prim.Native.Nat.{ℕ, zero, suc, ◌+◌, ◌-◌, ◌*◌, ◌^◌, ◌≤◌, ◌<◌}
-use mathlib.Core.Path.{◌≡◌, refl, ap}
+use mathlib.Core.Path.{◌≡◌, refl, ap, ◌∙◌}
 use mathlib.Core.List.{List, [], ◌∷◌}
-use lib.ListN.{get_or}
+use lib.ListN.{length, get_or, drop_of_length-le}
 use native.Mathlib.Nat.{lt_of_lt_of_le, pow-le-pow_right}
 use native.Mathlib.Omega.{arith, pow_step}
 use lib.Seq.{take-nil, drop-nil}
@@ -24,6 +24,11 @@ one_byte_more width (suc at) (b ∷ bytes) = one_byte_more width at bytes
 wider : (i j : ℕ) → i ≤ j → 256 ^ i ≤ 256 ^ j
 wider i j h = pow-le-pow_right {n = 256} (omega arith) h
 
+-- past the end of the bytes
+pub past_end : (width at : ℕ) (bytes : List ℕ) → length bytes ≤ at → (0 ≡ number_at width at bytes) × (0 < 256 ^ width)
+unfolding number_at little_endian
+past_end width at bytes h = (rw (drop_of_length-le bytes h, take-nil width), wider 0 width (omega arith))
+
 -- A number that is read from its highest byte down: with `left` bytes still to read, those above them.
 pub record Above (width at : ℕ) (bytes : List ℕ) (left sum : ℕ) : Type 0 where
   pub seen : ℕ
@@ -35,6 +40,12 @@ module _ (width at : ℕ) (bytes : List ℕ) where
   pub none_read : Above width at bytes width 0
   unfolding number_at little_endian
   none_read = record { seen = 0; rest = omega arith; is = refl; small = omega arith }
+
+  pub all_read : (left sum : ℕ) → Above width at bytes left sum → left ≤ 0 → (sum ≡ number_at width at bytes) × (sum < 256 ^ width)
+  all_read left sum h none =
+      let e : h.seen ≡ width = omega (arith, h.rest) in
+      let same : at + left ≡ at = omega arith in
+      (h.is ∙ rw (e, same), rw (← e) h.small)
 
   module _ (left b sum : ℕ) (h : Above width at bytes left sum) (some : 0 < left) (byte : b < 256) where
     fits : b + 256 * sum < 256 ^ suc h.seen

@@ -1,18 +1,24 @@
 -- What holds of every row of the table of widths, and how its widths add up.
-use Prim.Native.Nat.{ℕ, zero, suc, ◌≤◌}
+use Prim.Native.Nat.{ℕ, zero, suc, ◌+◌, ◌≤◌}
 use mathlib.Core.Path.{◌≡◌, refl}
+use mathlib.Core.Logic.{⊎_elim}
 use mathlib.Core.List.{List, [], ◌∷◌}
 use mathlib.Core.Bool.{Bool, true, ◌&&◌, ◌||◌}
 use lib.Dec.{leb, eqb}
-use lib.ListN.{length, get_or}
+use lib.ListN.{length, get_or, take}
+use lib.Seq.{take_all}
+use native.Mathlib.Numerals.{add-one}
 use native.Mathlib.Omega.{arith}
 use borrow.Author.Tests.{leb-true, eqb-true}
 use Rattle.memory.proofs.Tools.{and_0, and_1}
+use Rattle.std.specs.List.{sum}
+use Rattle.std.proofs.lemmas.Bool.{cases_lt}
 use Rattle.std.proofs.lemmas.List.{get_or_past}
+use Rattle.std.proofs.lemmas.List.Sums.{sum_by_more}
 use Rattle.session_marks.specs.Marks.{kinds, opens}
 use Rattle.session_marks.specs.declared.Kind.{Kind}
 use Rattle.session_marks.specs.declared.Kind.TheVariants.{Open, Start, Commit, Abort, Wait, Step, Read, Write}
-use Rattle.session_fields.specs.Fields.{widths, width, offset}
+use Rattle.session_fields.specs.Fields.{widths, width, offset, body_length}
 
 -- each of some values passes a test
 module _ {A : Type 0} (test : A → Bool) where
@@ -42,6 +48,13 @@ every test h k = go k (each test kinds h)
     go Read e = e.1.1.1.1.1.1.0
     go Write e = e.1.1.1.1.1.1.1.0
 
+-- no body is longer than four numbers of four bytes, and its numbers are the four of its row
+pub at_most_sixteen : (k : Kind) → body_length k ≤ 16
+at_most_sixteen k = leb-true (body_length k) 16 (every (λ j. leb (body_length j) 16) refl k)
+
+pub whole_row : (k : Kind) → offset k 4 ≡ body_length k
+whole_row k = eqb-true (offset k 4) (body_length k) (every (λ j. eqb (offset j 4) (body_length j)) refl k)
+
 -- no number is wider than 4 bytes
 abbrev fits : ℕ → Bool
 fits w = leb w 4
@@ -64,3 +77,9 @@ alike k i = eqb (width k i) 0 || (eqb (width k i) (width Write i) && eqb (offset
 
 as_in_write : (k : Kind) → (opens k || (alike k 0 && (alike k 1 && (alike k 2 && alike k 3)))) ≡ true
 as_in_write = every (λ k. opens k || (alike k 0 && (alike k 1 && (alike k 2 && alike k 3)))) refl
+
+-- one width more, up to the last and past it
+pub one_more : (ws : List ℕ) (i : ℕ) → sum (take (suc i) ws) ≡ sum (take i ws) + get_or ws i 0
+one_more ws i =
+    ⊎_elim (λ h. rw add-one at (sum_by_more (λ w. w) ws i 0 h)) (λ h. rw (take_all (suc i) ws (omega arith), take_all i ws h, get_or_past ws i 0 h) (omega arith))
+    (cases_lt i (length ws))

@@ -10,8 +10,9 @@ use native.Mathlib.Omega.{arith}
 use Rattle.session_marks.specs.Marks.{mark}
 use Rattle.session_marks.specs.declared.Kind.{Kind}
 use Rattle.session_fields.specs.Fields.{body_length}
-use Rattle.session_split.specs.Session.{Fault, Split, record_length, body, following, Session, encoded, onward, split_all, session, SplitKeepsTheBytes, SplitsToTheEnd}
+use Rattle.session_split.specs.Session.{Fault, Split, record_length, body, following, split, Session, encoded, onward, split_all, session, SplitKeepsTheBytes, SplitsToTheEnd, RefusalsAreTold}
 use Rattle.session_split.proofs.Cases.{split_cases, refused-apart, end_apart}
+use Rattle.session_split.proofs.Whole as whole
 
 -- a record's mark and body, and what follows it
 one_record : (k : Kind) (bytes : List ℕ) → take 2 bytes ≡ mark k → (mark k ++ body k bytes) ++ following k bytes ≡ bytes
@@ -64,3 +65,7 @@ all_split (suc n) first bytes h =
 pub splits_to_the_end : SplitsToTheEnd
 unfolding session
 splits_to_the_end bytes = all_split (length bytes) true bytes (omega arith)
+
+pub refusals_are_told : RefusalsAreTold
+unfolding split
+refusals_are_told = (refl, λ k b rest first all wrong fits. rw (whole.splits_off k b rest all first fits, wrong) refl)

@@ -17,6 +17,11 @@ number_of CutShort = 11
 number_of Misplaced = 12
 number_of TooLong = 14
 
+-- what is told of it: the number that refuses it, or 0
+abbrev pub told : Split → ℕ
+told (Ok k) = 0
+told (Err f) = number_of f
+
 -- §11.1: the longest session.
 abbrev pub most_bytes : ℕ
 most_bytes = 60000
@@ -114,3 +119,10 @@ SplitsToTheEnd =
     (bytes : List ℕ)
     → ((k : Kind) → (session bytes).ended ≡ Ok (Some k) → ⊥)
     × ((session bytes).ended ≡ Ok None → (session bytes).left ≡ [])
+
+-- §11.6, the numbers themselves: a session of nothing is refused by 11, and a whole record where a BD is missing or misplaced by 12
+abbrev pub RefusalsAreTold : Type 0
+RefusalsAreTold =
+    (told (split true []) ≡ 11)
+    × ((k : Kind) (b rest : List ℕ) (first : Bool) → length b ≡ body_length k → misplaced first k ≡ true
+    → let bytes = (mark k ++ b) ++ rest in too_long first (length bytes) ≡ false → told (split first bytes) ≡ 12)

@@ -3,6 +3,9 @@
 
 #![tactic(auto)]
 
+#[cfg(test)]
+mod tests;
+
 use program_input::{read_full, room};
 use sheet_read::Reader;
 use sheet_text::{Done, Refused};

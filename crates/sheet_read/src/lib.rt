@@ -2,14 +2,13 @@
 
 #![tactic(auto)]
 
-ghost use Rattle.std.specs.Prelude.{◌≡◌, None};
+ghost use Rattle.std.specs.Prelude.{◌≡◌, None, Some};
 ghost use Rattle.session_text.specs.Text.{stored};
 ghost use Rattle.sheet_text.specs.Read as spec;
 
 use session_split::MOST_BYTES;
 use session_text::Out;
 use sheet_text::{Cause, Done, Line, NEWLINE, RETURN, Refused, Spot, TextFault, Turn};
-use std::marker::Model;
 
 // A text so far: the line that is read, how many bytes of the session there are, how many lines were good, what refuses the text, if
 // anything does, and where the next byte stands. Its numbers are small, whatever was read.
@@ -20,24 +19,15 @@ pub struct Reader {
     lines: usize,
     fault: Option<TextFault>,
     spot: Spot,
-}
-
-impl Model for Reader {
-    ghost use Rattle.sheet_text.specs.Read as spec;
-
-    ghost Value = { spec.Reader };
-
-    ghost view = { λ r. spec.reader r.spot r.line r.length r.lines r.fault };
-
-    ghost invariant = { λ r. spec.Small (spec.reader r.spot r.line r.length r.lines r.fault) };
-
-    ghost inverse = { λ v. record { line = v.line; length = v.length; lines = v.lines; fault = v.fault; spot = v.spot } };
+    ghost small: { spec.Small (spec.reader spot line length lines fault) },
 }
 
 impl Reader {
+    ghost use Rattle.sheet_read.specs.Shown.{shown};
+
     // Nothing was read yet.
     pub fn begin() -> Reader
-        ensures { result ≡ spec.begin }
+        ensures { shown result ≡ spec.begin }
     {
         Reader {
             line: sheet_line::blank(),
@@ -48,25 +38,85 @@ impl Reader {
         }
     }
 
+    // A text so far, made of its five parts. It has to be small: else its numbers might leave their types while more is read.
+    pub fn of(
+        spot: Spot,
+        line: Line,
+        length: usize,
+        lines: usize,
+        fault: Option<TextFault>,
+    ) -> Reader
+        requires { spec.Small (spec.reader spot line length lines fault) }
+        ensures { shown result ≡ spec.reader spot line length lines fault }
+    {
+        Reader {
+            line,
+            length,
+            lines,
+            fault,
+            spot,
+        }
+    }
+
+    // Where the next byte stands.
+    pub fn spot(self) -> Spot
+        ensures { result ≡ (shown self).spot }
+    {
+        self.spot
+    }
+
+    // The line that is read. It and the two counts below also say that the reader is small: who makes one of changed parts has to show it.
+    pub fn line(self) -> Line
+        ensures { (result ≡ (shown self).line) × spec.Small (shown self) }
+    {
+        self.line
+    }
+
+    // How many bytes of the session there are. Those of a line that was refused are among them.
+    pub fn length(self) -> usize
+        ensures { (result ≡ (shown self).length) × spec.Small (shown self) }
+    {
+        self.length
+    }
+
+    // How many lines were good.
+    pub fn lines(self) -> usize
+        ensures { (result ≡ (shown self).lines) × spec.Small (shown self) }
+    {
+        self.lines
+    }
+
+    // What refuses the text, if anything does.
+    pub fn fault(self) -> Option<TextFault>
+        ensures { result ≡ (shown self).fault }
+    {
+        self.fault
+    }
+
+    // Such a fault refuses the text, and the next byte would stand at such a spot.
+    fn refused(self, spot: Spot, fault: TextFault) -> Reader
+        ensures { shown result ≡ spec.reader spot self.line self.length self.lines (Some fault) }
+    {
+        Reader {
+            line: self.line,
+            length: self.length,
+            lines: self.lines,
+            fault: Some(fault),
+            spot,
+        }
+    }
+
     // §18.8: the line that is read has ended.
     #[tactic(auto, unfolding(sheet_text::specs::Read::line_ended))]
     fn line_ended(self) -> Reader
-        ensures { result ≡ spec.line_ended self.line self.length self.lines }
+        ensures { shown result ≡ spec.line_ended self.line self.length self.lines }
     {
         let spot = Spot::Fresh;
         if let Some(fault) = sheet_line::verdict(self.line) {
-            return Reader {
-                spot,
-                fault: Some(fault),
-                ..self
-            };
+            return self.refused(spot, fault);
         }
         if MOST_BYTES < self.length {
-            return Reader {
-                spot,
-                fault: Some(TextFault::TooLong),
-                ..self
-            };
+            return self.refused(spot, TextFault::TooLong);
         }
         Reader {
             line: sheet_line::blank(),
@@ -78,11 +128,10 @@ impl Reader {
     }
 
     // The field that is read has ended. The bytes of the session go into the buffer as far as it reaches.
-    #[tactic(auto, using(sheet_text::proofs::Small::small_field))]
     fn field_over(self, out: &mut [u8]) -> Reader
         requires { self.fault ≡ None }
-        ensures { (result ≡ spec.act self Turn.FieldEnds 0)
-            × (out.new ≡ stored out.old self.length (spec.act_bytes self Turn.FieldEnds)) }
+        ensures { (shown result ≡ spec.act (shown self) Turn.FieldEnds 0)
+            × (out.new ≡ stored out.old (shown self).length (spec.act_bytes (shown self) Turn.FieldEnds)) }
     {
         let mut out = Out {
             buffer: out,
@@ -100,28 +149,34 @@ impl Reader {
 
     // What a byte does that is such a turn, in a text that was not refused. What ends a field is one call, so that the compiler can put all
     // of this into the loop that goes over the bytes, and keep the reader in registers; and that nothing refuses it is written out, so that
-    // no fault is carried from byte to byte.
+    // no fault is carried from byte to byte. A stray byte has its reader written out as well: `refused` makes the loop slower here.
     #[tactic(auto, unfolding(sheet_text::specs::Line::with_byte))]
     fn act(self, turn: Turn, byte: u8, out: &mut [u8]) -> Reader
         requires { self.fault ≡ None }
-        ensures { (result ≡ spec.act self turn byte)
-            × (out.new ≡ stored out.old self.length (spec.act_bytes self turn)) }
+        ensures { (shown result ≡ spec.act (shown self) turn byte)
+            × (out.new ≡ stored out.old (shown self).length (spec.act_bytes (shown self) turn)) }
     {
         match turn {
             Turn::Content(spot) => Reader {
                 line: sheet_line::with_byte(self.line, byte),
+                length: self.length,
+                lines: self.lines,
                 fault: None,
                 spot,
-                ..self
             },
             Turn::Beside(spot) => Reader {
+                line: self.line,
+                length: self.length,
+                lines: self.lines,
                 fault: None,
                 spot,
-                ..self
             },
             Turn::Stray => Reader {
+                line: self.line,
+                length: self.length,
+                lines: self.lines,
                 fault: Some(TextFault::BadQuoting),
-                ..self
+                spot: self.spot,
             },
             Turn::FieldEnds | Turn::LineEnds => {
                 let over = self.field_over(out);
@@ -137,8 +192,8 @@ impl Reader {
     // Reads a part of a text, the next one after what was read before. The bytes of the session go into the buffer as far as it reaches. A
     // text that was refused stays so.
     pub fn feed(self, text: &[u8], out: &mut [u8]) -> Reader
-        ensures { (result ≡ spec.feed self text.now)
-            × (out.new ≡ stored out.old self.length (spec.feed_bytes self text.now)) }
+        ensures { (shown result ≡ spec.feed (shown self) text.now)
+            × (out.new ≡ stored out.old (shown self).length (spec.feed_bytes (shown self) text.now)) }
     {
         let mut next = self;
         for &byte in text {
@@ -155,25 +210,22 @@ impl Reader {
     // the compiler puts all of it into the loop that goes over the bytes.
     #[tactic(auto, unfolding(sheet_text::specs::Read::finish, sheet_text::specs::Read::finish_bytes))]
     pub fn finish(self, out: &mut [u8]) -> Reader
-        ensures { (result ≡ spec.finish self)
-            × (out.new ≡ stored out.old self.length (spec.finish_bytes self)) }
+        ensures { (shown result ≡ spec.finish (shown self))
+            × (out.new ≡ stored out.old (shown self).length (spec.finish_bytes (shown self))) }
     {
         if self.fault.is_some() {
             return self;
         }
         match sheet_turn::ending(self.spot, self.line.fields) {
             Turn::LineEnds => self.feed(&[RETURN, NEWLINE], out),
-            Turn::Stray => Reader {
-                fault: Some(TextFault::BadQuoting),
-                ..self
-            },
+            Turn::Stray => self.refused(self.spot, TextFault::BadQuoting),
             _ => self,
         }
     }
 
     // §18.9: what is answered at the end of the text, if the buffer has room.
     pub fn known(self) -> Result<Done, Refused>
-        ensures { result ≡ spec.known self }
+        ensures { result ≡ spec.known (shown self) }
     {
         let lines = self.lines;
         match self.fault {

@@ -5,6 +5,7 @@ pub mod Asked
 pub mod Little
 -- how long a session becomes, and that every number of a reader stays small
 pub mod Lengths
+pub mod Lasts
 pub mod Small
 pub mod Numbers
 pub mod Buffers

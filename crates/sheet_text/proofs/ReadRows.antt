@@ -1,9 +1,9 @@
 -- A text of rows that is read: the claims that good rows are read, that the last may lack its CR LF, and that the first faulty row
--- decides.
+-- decides, and is told by its number.
 use Rattle.std.specs.Prelude.{Option, None, Some}
 use Prim.Native.Nat.{ℕ, ◌+◌}
 use mathlib.Core.Path.{◌≡◌, refl, sym, ap, ◌∙◌}
-use mathlib.Core.Logic.{inr, ◌≢◌}
+use mathlib.Core.Logic.{◌⊎◌, inl, inr, ◌≢◌}
 use mathlib.Core.List.{List, [], ◌∷◌, ◌++◌, append_assoc, append-nil}
 use mathlib.Core.Bool.{Bool, true, false}
 use lib.Dec.{ltb}
@@ -14,12 +14,13 @@ use Rattle.memory.proofs.Tools.{if_cases, and_0, and_1}
 use Rattle.session_split.specs.Session.{most_bytes, encoded}
 use Rattle.sheet_text.specs.Turn.{Fresh, return, newline}
 use Rattle.std.proofs.lemmas.Option.{none-some}
-use Rattle.sheet_text.specs.Answer.{TextFault, TooLong}
+use Rattle.sheet_text.specs.Answer.{TextFault, TooLong, told}
 use Rattle.sheet_text.specs.Line.{Line, blank, verdict}
 use Rattle.sheet_text.specs.Read.{Reader, reader, begin, ended_by, line_ended, finish, finish_bytes, read_of, session_of}
-use Rattle.sheet_text.specs.Rows.{Row, cell_ok, cells_ok, row_ok, rows_ok, row_text, rows_text, row_fault, rows_fault, pieces_of}
-use Rattle.sheet_text.specs.Claims.{GoodRowsAreRead, LastMayLackItsEnd, FirstFaultDecides}
+use Rattle.sheet_text.specs.Rows.{Row, cell_ok, cells_ok, row_ok, rows_ok, row_text, rows_text, row_fault, rows_fault, rows_number, pieces_of}
+use Rattle.sheet_text.specs.Claims.{GoodRowsAreRead, LastMayLackItsEnd, FirstFaultDecides, FirstFaultIsTold}
 use Rattle.sheet_text.proofs.Feed.{Goes, goes_nowhere, goes_on, Ends, ends_so, ends-after, refused_goes, refused-finish, refused-finish_bytes}
+use Rattle.sheet_text.proofs.Numbers.{rows_numbered}
 use Rattle.sheet_text.proofs.ReadRow.{cells_bytes, after, cells_go, cells_end}
 use Rattle.sheet_text.proofs.Records.{encoded_append}
 use Rattle.sheet_text.proofs.RowAsks.{fault_read, record_read}
@@ -199,3 +200,13 @@ pub first_fault_decides : FirstFaultDecides
 unfolding read_of
 first_fault_decides rows rest f ok bad =
     ap (λ (x : Reader). x.fault) (refused-ends rows ok bad rest).comes ∙ ((came rows 0 0 ok).fault ∙ bad)
+
+-- what is told of rows and of what follows them is the number of what refuses the rows
+pub first_fault_is_told : FirstFaultIsTold
+first_fault_is_told rows rest ok ends = go (rows_fault 0 rows) refl ends ∙ rows_numbered rows 0
+  where
+    go : (f : Option TextFault) → rows_fault 0 rows ≡ f → (rows_number 0 rows ≢ 0) ⊎ (rest ≡ [])
+        → told (read_of (rows_text rows ++ rest)).fault ≡ told (rows_fault 0 rows)
+    go (Some f) bad e = rw (first_fault_decides rows rest f ok bad, bad)
+    go None fine (inl some) = absurd (some (sym (rows_numbered rows 0) ∙ ap told fine))
+    go None fine (inr none) = rw (none, append-nil, (good_rows_are_read rows ok fine).good, fine)

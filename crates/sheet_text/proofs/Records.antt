@@ -1,4 +1,4 @@
--- The claim `LinesAreRecords`, kept: good rows stand for whole records, and a session of whole records is split into them.
+-- The claims `LinesAreRecords` and `EndIsTold`, kept: good rows stand for whole records, and a session of whole records is split into them.
 use Rattle.std.specs.Prelude.{Option, None, Some, Ok, Err, if◌then◌else◌}
 use Rattle.std.specs.List.{sum}
 use Rattle.std.proofs.lemmas.List.Sums.{sum_by-cons}
@@ -15,7 +15,7 @@ use Rattle.session_marks.specs.Marks.{mark}
 use Rattle.session_marks.specs.declared.Kind.{Kind}
 use Rattle.session_fields.specs.Fields.{widths, body_length}
 use Rattle.session_split.specs.declared.Fault.TheVariants.{CutShort, Misplaced}
-use Rattle.session_split.specs.Session.{Piece, Session, most_bytes, misplaced, too_long, split, split_all, session, encoded}
+use Rattle.session_split.specs.Session.{Piece, Session, most_bytes, misplaced, too_long, told, split, split_all, session, encoded}
 use Rattle.session_split.proofs.Cases.{refused-apart, end_apart}
 use Rattle.session_split.proofs.Rest.{nothing-split}
 use Rattle.session_split.proofs.Whole as whole
@@ -24,9 +24,10 @@ use Rattle.std.proofs.lemmas.Option.{none-some}
 use Rattle.sheet_text.specs.Answer.{TextFault, WrongCount, WrongField, TooLong}
 use Rattle.sheet_text.specs.Line.{little}
 use Rattle.sheet_text.specs.Rows.{Cell, Row, kind_of_content, decimal, contents_fit, asked, row_fault_of, row_fault, body_of, piece_as, pieces_of, rows_fault}
-use Rattle.sheet_text.specs.Claims.{as_far, end_of, LinesAreRecords}
+use Rattle.sheet_text.specs.Claims.{as_far, end_of, LinesAreRecords, end_number, EndIsTold}
 use Rattle.sheet_text.proofs.Asked.{all_asked}
 use Rattle.sheet_text.proofs.Little.{length-little}
+use Rattle.sheet_text.proofs.Numbers.{zero_good}
 
 -- each record has its whole body
 abbrev pub Whole : List Piece → Type 0
@@ -134,3 +135,17 @@ unfolding session
 lines_are_records rows e =
     let g = good rows 0 (omega arith) e in
     all_split (pieces_of rows) (length (encoded (pieces_of rows))) true g.whole (le-ltb most_bytes (length (encoded (pieces_of rows))) (omega (arith, g.fits))) (omega arith)
+
+-- the same end by its number
+end-numbered : (first : Bool) (ps : List Piece) → told (end_of first ps) ≡ end_number first ps
+end-numbered true [] = refl
+end-numbered false [] = refl
+end-numbered first (p ∷ ps) = go (misplaced first p.kind) (end-numbered false ps)
+  where
+    go : (m : Bool) → told (end_of false ps) ≡ end_number false ps
+        → told (if m then Err Misplaced else end_of false ps) ≡ (if m then 12 else end_number false ps)
+    go true later = refl
+    go false later = later
+
+pub end_is_told : EndIsTold
+end_is_told rows fine = rw (lines_are_records rows (zero_good rows fine)).1 (end-numbered true (pieces_of rows))

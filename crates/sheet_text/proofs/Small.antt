@@ -1,20 +1,25 @@
--- What keeps the numbers of a reader small: `Small` lasts where a field ends.
+-- What keeps the numbers of a reader small: `Small` lasts, whatever is read.
 use Rattle.std.specs.Prelude.{Option, None, Some}
 use Prim.Native.Nat.{ℕ, ◌+◌, ◌*◌, ◌-◌, ◌≤◌}
-use mathlib.Core.Path.{◌≡◌, refl}
+use mathlib.Core.Path.{◌≡◌, refl, sym}
 use mathlib.Core.Logic.{◌≢◌}
 use mathlib.Core.List.{List, [], ◌∷◌}
+use mathlib.Core.Bool.{Bool}
 use lib.Dec.{ltb, eqb}
 use lib.ListN.{length}
 use native.Mathlib.Omega.{arith}
 use borrow.Author.Tests.{ltb-true, ltb-false, eqb-true, eqb-false}
+use Rattle.std.proofs.lemmas.Option.{none-some}
 use Rattle.memory.proofs.Tools.{if_cases}
 use Rattle.session_marks.specs.Marks.{kind_at}
 use Rattle.session_marks.specs.declared.Kind.{Kind}
 use Rattle.session_fields.proofs.Table.{at_most_four, none_behind}
-use Rattle.sheet_text.specs.Turn.{FieldEnds}
-use Rattle.sheet_text.specs.Line.{Line, Letters, NoLetter, One, Two, More, kind_of, letters_of, width_at, value_of, one_more, field_ended, field_bytes}
-use Rattle.sheet_text.specs.Read.{Reader, Small, marked, act}
+use Rattle.session_split.specs.Session.{most_bytes}
+use Rattle.sheet_text.specs.Answer.{TextFault, UnknownMark}
+use Rattle.sheet_text.specs.Turn.{Turn, Content, Beside, FieldEnds, LineEnds, Stray}
+use Rattle.sheet_text.specs.Line.{Line, Letters, NoLetter, One, Two, More, kind_of, letters_of, width_at, value_of, one_more, with_byte, field_ended, field_bytes, verdict, verdict_of}
+use Rattle.sheet_text.specs.Read.{Reader, Small, marked, begin, ended_by, line_ended, act, step}
+use Rattle.sheet_text.proofs.Lasts.{lasts-step}
 use Rattle.sheet_text.proofs.Lengths.{if_both}
 use Rattle.sheet_text.proofs.Little.{length-little}
 
@@ -70,3 +75,43 @@ pub small_field : (r : Reader) → Small r → Small (act r FieldEnds 0)
 small_field r k =
     let e = ended r.line k.fields in
     record { fields = e.fields; short = omega (arith, k.short, e.room); counted = omega (arith, k.counted, e.paid) }
+
+-- a line that nothing refuses has a mark
+known : (m : Option Kind) (n : ℕ) (wrong : Bool) → verdict_of m n wrong ≡ None → marked m ≡ 2
+known None n wrong e = absurd (none-some UnknownMark (sym e))
+known (Some k) n wrong e = refl
+
+small-line_ended : (l : Line) (n i : ℕ)
+    → l.fields ≤ 6 → n ≤ most_bytes + 4 * l.fields → i + marked l.kind ≤ n → Small (line_ended l n i)
+unfolding line_ended
+small-line_ended l n i few short counted = go (verdict l) refl
+  where
+    go : (v : Option TextFault) → verdict l ≡ v → Small (ended_by v l n i)
+    go (Some f) e = record { fields = few; short = short; counted = counted }
+    go None e =
+        if_cases Small (ltb most_bytes n) _ _
+        (λ _. record { fields = few; short = short; counted = counted })
+        (λ s.
+        let v = known l.kind l.fields l.wrong e in
+        record {
+          fields = omega arith;
+          short = omega (arith, ltb-false most_bytes n s);
+          counted = omega (arith, v);
+        })
+
+-- whatever one byte does
+pub small-act : (r : Reader) (t : Turn) (b : ℕ) → Small r → Small (act r t b)
+unfolding with_byte
+small-act r (Content s) b k = record { fields = k.fields; short = k.short; counted = k.counted }
+small-act r (Beside s) b k = record { fields = k.fields; short = k.short; counted = k.counted }
+small-act r FieldEnds b k = small_field r k
+small-act r LineEnds b k =
+    let e = small_field r k in
+    small-line_ended (field_ended r.line) (r.length + length (field_bytes r.line)) r.lines e.fields e.short e.counted
+small-act r Stray b k = record { fields = k.fields; short = k.short; counted = k.counted }
+
+pub small-begin : Small begin
+small-begin = record { fields = omega arith; short = omega arith; counted = omega arith }
+
+pub small-step : (r : Reader) (b : ℕ) → Small r → Small (step r b)
+small-step = lasts-step Small small-act

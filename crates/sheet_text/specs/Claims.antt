@@ -3,11 +3,12 @@ use Rattle.std.specs.Prelude.{ℕ, ◌*◌, ◌<◌, ◌≤◌, ◌≡◌, ◌�
 use Rattle.memory.specs.History.{◌∈◌}
 use Rattle.session_split.specs.declared.Fault.TheVariants.{CutShort, Misplaced}
 use Rattle.session_split.specs.Session.{Split, Piece, misplaced, session, encoded}
+use Rattle.session_split.specs.Session as split
 use Rattle.sheet_text.specs.Turn.{return, newline}
 use Rattle.sheet_text.specs.Answer.{TextFault, told, Answer, number, length_of}
 use Rattle.sheet_text.specs.Read.{read_of, session_of, reading}
 use Rattle.sheet_text.specs.Write.{text_of, writing}
-use Rattle.sheet_text.specs.Rows.{Row, all_bare, row_ok, rows_ok, row_text, rows_text, rows_fault, pieces_of}
+use Rattle.sheet_text.specs.Rows.{Row, all_bare, row_ok, rows_ok, row_text, rows_text, rows_fault, rows_number, pieces_of}
 
 abbrev pub Bytes : List ℕ → Type 0
 Bytes l = (b : ℕ) → b ∈ l → b < 256
@@ -54,6 +55,12 @@ FirstFaultDecides =
     (rows : List Row) (rest : List ℕ) (f : TextFault) → rows_ok rows ≡ true → rows_fault 0 rows ≡ Some f
     → (read_of (rows_text rows ++ rest)).fault ≡ Some f
 
+-- The same of the numbers themselves (§18.8): what is told is the number of the rows, whatever follows them; 0 if nothing follows either.
+abbrev pub FirstFaultIsTold : Type 0
+FirstFaultIsTold =
+    (rows : List Row) (rest : List ℕ) → rows_ok rows ≡ true → (rows_number 0 rows ≢ 0) ⊎ (rest ≡ [])
+    → told (read_of (rows_text rows ++ rest)).fault ≡ rows_number 0 rows
+
 -- Nothing else is read: a text that nothing refuses is rows of fields, of which the last may lack its CR LF.
 pub record IsRows (text : List ℕ) : Type 0 where
   pub rows : List Row
@@ -86,7 +93,7 @@ LastRow text = (r : Row) × (row_ok r ≡ true) × (text ≡ row_text r)
 
 -- Every text is rows that each end in CR LF, and behind them a last row without it, or what begins with no line. So the claims settle
 -- the number of every text: GoodRowsAreRead, LastMayLackItsEnd and FirstFaultDecides where all is rows, and else FirstFaultDecides if a
--- row has a fault, and AstrayIsTold if none has.
+-- row has a fault, and AstrayIsTold if none has; and FirstFaultIsTold says which number a row's fault has.
 pub record Divided (text : List ℕ) : Type 0 where
   pub rows : List Row
   pub ok : rows_ok rows ≡ true
@@ -111,6 +118,16 @@ LinesAreRecords =
     (rows : List Row) → rows_fault 0 rows ≡ None
     → ((session (encoded (pieces_of rows))).pieces ≡ as_far true (pieces_of rows))
     × ((session (encoded (pieces_of rows))).ended ≡ end_of true (pieces_of rows))
+
+-- The numbers of that end themselves (§11.6): 11 where there is no record, 12 at a BD that is missing or misplaced, and else 0.
+abbrev pub end_number : Bool → List Piece → ℕ
+end_number first [] = if first then 11 else 0
+end_number first (p ∷ ps) = if misplaced first p.kind then 12 else end_number false ps
+
+abbrev pub EndIsTold : Type 0
+EndIsTold =
+    (rows : List Row) → rows_number 0 rows ≡ 0
+    → split.told (session (encoded (pieces_of rows))).ended ≡ end_number true (pieces_of rows)
 
 -- Writing ----------------------------------------------------------------------------------------------------------------------------
 
@@ -145,10 +162,12 @@ pub record EveryClaim : Type 0 where
   pub good_rows_are_read : GoodRowsAreRead
   pub last_may_lack_its_end : LastMayLackItsEnd
   pub first_fault_decides : FirstFaultDecides
+  pub first_fault_is_told : FirstFaultIsTold
   pub only_rows_are_read : OnlyRowsAreRead
   pub astray_is_told : AstrayIsTold
   pub every_text_divides : EveryTextDivides
   pub lines_are_records : LinesAreRecords
+  pub end_is_told : EndIsTold
   pub written_is_rows : WrittenIsRows
   pub written_is_read_back : WrittenIsReadBack
   pub written_is_short : WrittenIsShort

@@ -150,3 +150,22 @@ rows_fault n [] = None
 rows_fault n (r ∷ rs) =
     let m = n + length (encoded (pieces_of (r ∷ []))) in
     option_or (row_fault r) (if ltb most_bytes m then Some TooLong else rows_fault m rs)
+
+-- The same in the numbers themselves, and not by way of a fault: the number of a row, 0 if it is good; and that of rows.
+abbrev pub row_number_of : Option Kind → List Cell → ℕ
+row_number_of None cs = 33
+row_number_of (Some k) cs =
+    if not (eqb (length cs) (asked k)) then 31 else
+    if not (contents_fit (widths k) cs) then 32 else
+    0
+
+unfoldable pub row_number : Row → ℕ
+row_number r = row_number_of (kind_of_content r.first.content) r.others
+
+unfoldable pub rows_number : ℕ → List Row → ℕ
+rows_number n [] = 0
+rows_number n (r ∷ rs) =
+    if not (eqb (row_number r) 0) then row_number r else
+    let m = n + length (encoded (pieces_of (r ∷ []))) in
+    if ltb most_bytes m then 34 else
+    rows_number m rs

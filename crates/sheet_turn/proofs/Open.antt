@@ -9,6 +9,11 @@ use Rattle.sheet_text.specs.declared.Turn.TheVariants.{Content, FieldEnds}
 use Rattle.sheet_text.specs.Turn.{special, quote, comma, return, newline, leave, bare, turn}
 use Rattle.sheet_turn.specs.Contract.{is_open}
 
+-- one of the four leaves a bare field
+pub leaves : (b : ℕ) → special b ≡ true → bare b ≡ leave b
+unfolding bare
+leaves b e = rw e
+
 -- a test that holds of neither part
 neither : (a b : Bool) → (a || b) ≡ false → a ≡ false
 neither true b e = absurd (false≢true (sym e))

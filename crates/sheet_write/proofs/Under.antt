@@ -74,7 +74,7 @@ module _ (s : List ℕ) (out₀ : Out) where
     near front = omega (arith, u.put.put.near, few s i from u.short u.behind u.inside)
 
     -- no record is split off
-    finish : (e : Split) → split (eqb i 0) (drop from s) ≡ e → ((k : Kind) → e ≡ Ok (Some k) → ⊥)
+    pub finish : (e : Split) → split (eqb i 0) (drop from s) ≡ e → ((k : Kind) → e ≡ Ok (Some k) → ⊥)
         → (e ≡ (session s).ended) × (i ≡ length (session s).pieces) × Puts lines_room out₀ out (text_of (session s).pieces)
     finish e q none =
         let here = ends_here s i from e q none in

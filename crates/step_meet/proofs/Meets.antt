@@ -16,7 +16,8 @@ use Rattle.memory.specs.declared.Outcome.TheVariants.{Failed}
 use Rattle.memory.specs.declared.Phase.{Phase}
 use Rattle.memory.specs.declared.Phase.TheVariants.{Idle, Open, Taking, Asleep, Writing, Releasing}
 use Rattle.memory.specs.declared.Place.{Place}
-use Rattle.memory.specs.Pieces.{Memory, memory, most_records, place, place_of, placed, moved, set_place, move}
+use Rattle.memory.specs.declared.set.TaskSet.{TaskSet}
+use Rattle.memory.specs.Pieces.{Memory, memory, most_records, place, place_of, task_set, placed, moved, set_place, move}
 use Rattle.memory.specs.Lists.{has}
 use Rattle.memory.specs.Sound.{sound}
 use Rattle.memory.specs.Step.{fails, wakes, ends_with, end_all, clash, joining, version_on, joined, meet}
@@ -62,27 +63,29 @@ module _ (z : Sizes) (m : Memory) (t u : ℕ) (c : Coming) (met : Place) (is_met
   stays j =
       comer_stays z m t ok lt c.goal c.i u (ap (λ (x : Place). x.phase) (sym own) ∙ takes) (λ y. ne (sym y)) (rw is_met at j) ∙ sym own
 
-  meet_clash : joining c.goal met.phase ≡ false → set_place (clash z m u) t (moved c.place (Releasing Failed 0)) ≡ meet z m t c.goal c.i c.entry u
+  pub meet_clash : joining c.goal met.phase ≡ false → set_place (clash z m u) t (moved c.place (Releasing Failed 0)) ≡ meet z m t c.goal c.i c.entry u
   unfolding meet move
   meet_clash j = rw (← is_met, j, stays j)
 
   module _ (join : joining c.goal met.phase ≡ true) (v : ℕ) (is_seen : v ≡ version_on z m u (c.entry.address % z.records)) where
-    meet_differs : v ≢ c.entry.old.version → set_place m t (moved c.place (Releasing Failed 0)) ≡ meet z m t c.goal c.i c.entry u
+    pub meet_differs : v ≢ c.entry.old.version → set_place m t (moved c.place (Releasing Failed 0)) ≡ meet z m t c.goal c.i c.entry u
     unfolding meet move
     meet_differs d = rw (← is_met, join, ← is_seen, ne_eqb v c.entry.old.version d, own)
 
     -- the set of those that it has joined
-    joins_are : u < z.tasks → (s : ℕ) → ((w : ℕ) → has s w ≡ (eqb w u || has c.place.joins w))
+    joins_are : u < z.tasks → (s : TaskSet) → ((w : ℕ) → has s.bits w ≡ (eqb w u || has c.place.joins.bits w))
         → placed c.place (Taking c.goal (c.i + 1)) s ≡ joined z u (place m t) (Taking c.goal (suc c.i))
     unfolding joined
-    joins_are h s f = rw (add-one, ← own, known_by z.tasks s (λ w. eqb w u || has c.place.joins w) (λ w d. f w) outside)
+    joins_are h s f =
+        rw (add-one, ← own)
+        (ap (λ (j : ℕ). placed c.place (Taking c.goal (suc c.i)) (task_set j)) (known_by z.tasks s.bits (λ w. eqb w u || has c.place.joins.bits w) (λ w d. f w) outside))
       where
-        outside : (w : ℕ) → z.tasks ≤ w → has s w ≡ false
+        outside : (w : ℕ) → z.tasks ≤ w → has s.bits w ≡ false
         outside w d =
-            f w ∙ ap (λ (b : Bool). b || has c.place.joins w) (ne_eqb w u (omega arith))
-            ∙ none_beyond z.tasks c.place.joins w (rw own (joins_small z m ok t lt)) d
+            f w ∙ ap (λ (b : Bool). b || has c.place.joins.bits w) (ne_eqb w u (omega arith))
+            ∙ none_beyond z.tasks c.place.joins.bits w (rw own (joins_small z m ok t lt)) d
 
-    meet_joins : v ≡ c.entry.old.version → u < z.tasks → (s : ℕ) → ((w : ℕ) → has s w ≡ (eqb w u || has c.place.joins w))
+    pub meet_joins : v ≡ c.entry.old.version → u < z.tasks → (s : TaskSet) → ((w : ℕ) → has s.bits w ≡ (eqb w u || has c.place.joins.bits w))
         → set_place m t (placed c.place (Taking c.goal (c.i + 1)) s) ≡ meet z m t c.goal c.i c.entry u
     unfolding meet
     meet_joins d h s f = rw (← is_met, join, ← is_seen, eq-eqb v c.entry.old.version d, joins_are h s f)
@@ -99,7 +102,7 @@ module _ {c : Coming} {z : Sizes} {places entries : List (List ℕ)} {u : ℕ} (
   record_in : c.entry.address % z.records < z.records
   record_in = mod-lt c.entry.address records_there.0
 
-  owner_in : u < z.tasks
+  pub owner_in : u < z.tasks
   owner_in = owner_task z m₀ w.ok _ u record_in w.owned
 
   pub may_wake : MayWake places u
@@ -132,27 +135,28 @@ module _ {c : Coming} {z : Sizes} {places entries : List (List ℕ)} {u : ℕ} (
       near = omega arith;
     }
 
-    module _ (join : joining c.goal met.phase ≡ true) {v : ℕ} (seen : Seen z met.count entries u (c.entry.address % z.records) v) where
-      -- the version that is seen is the definition's, with any words and records
-      seen_is : (words records : List ℕ) → v ≡ version_on z (memory words records places entries) u (c.entry.address % z.records)
-      unfolding version_on place
-      seen_is words records = seen ∙ rw is_met
+    -- the version that is seen is the definition's, with any words and records
+    pub seen_is : {v : ℕ} → Seen z met.count entries u (c.entry.address % z.records) v → (words records : List ℕ)
+        → v ≡ version_on z (memory words records places entries) u (c.entry.address % z.records)
+    unfolding version_on place
+    seen_is seen words records = seen ∙ rw is_met
 
+    module _ (join : joining c.goal met.phase ≡ true) {v : ℕ} (seen : Seen z met.count entries u (c.entry.address % z.records) v) where
       pub came_differs : v ≢ c.entry.old.version → Came c z places entries u (moved c.place (Releasing Failed 0)) places
       unfolding place
       came_differs d = record {
         leaves = λ words records t ok lt ne own takes.
-            meet_differs z (memory words records places entries) t u c met is_met ok lt ne own takes join v (seen_is words records) d;
+            meet_differs z (memory words records places entries) t u c met is_met ok lt ne own takes join v (seen_is seen words records) d;
         same_count = refl;
         near = omega arith;
       }
 
-      pub came_joins : v ≡ c.entry.old.version → (s : ℕ) → ((w : ℕ) → has s w ≡ (eqb w u || has c.place.joins w))
+      pub came_joins : v ≡ c.entry.old.version → (s : TaskSet) → ((w : ℕ) → has s.bits w ≡ (eqb w u || has c.place.joins.bits w))
           → Came c z places entries u (placed c.place (Taking c.goal (c.i + 1)) s) places
       unfolding place
       came_joins d s f = record {
         leaves = λ words records t ok lt ne own takes.
-            meet_joins z (memory words records places entries) t u c met is_met ok lt ne own takes join v (seen_is words records) d owner_in s f;
+            meet_joins z (memory words records places entries) t u c met is_met ok lt ne own takes join v (seen_is seen words records) d owner_in s f;
         same_count = refl;
         near = omega arith;
       }

@@ -3,7 +3,7 @@
 #![tactic(auto)]
 
 ghost use Rattle.std.specs.Prelude.{◌≡◌, ℕ, ◌<◌, ◌≤◌, length, get_or};
-ghost use Rattle.memory.specs.Pieces.{most_tasks};
+ghost use Rattle.memory.specs.Pieces.{most_tasks, no_tasks};
 ghost use Rattle.memory.specs.Lists.{has, leads};
 ghost use Rattle.table_leads.specs.Contract.{through, Through, Filled, Ways};
 
@@ -46,7 +46,7 @@ fn fill(places: &[PlaceRow], ways: &mut [TaskSet])
 // One of the tasks after the other may be gone through.
 fn close(ways: &mut [TaskSet])
     requires { length ways.old ≤ most_tasks }
-    ensures { (length ways.new ≡ length ways.old) × ((a b : ℕ) → b < length ways.old → has (get_or ways.new b 0) a ≡ leads (λ x y. has (get_or ways.old y 0) x) (length ways.old) a b) }
+    ensures { (length ways.new ≡ length ways.old) × ((a b : ℕ) → b < length ways.old → has (get_or ways.new b no_tasks).bits a ≡ leads (λ x y. has (get_or ways.old y no_tasks).bits x) (length ways.old) a b) }
 {
     for k in 0..ways.len() {
         pass_all(ways, k);

@@ -70,7 +70,7 @@ fn no_way_back(places: &[PlaceRow]) -> bool
 {
     let mut ways = [TaskSet::none(); memory::MOST_TASKS];
     table_leads::ways(places, &mut ways);
-    // Stays a loop: with `all` over sets, which have a model, the proof did not close.
+    // Stays a loop: with `all` over the numbered sets the check finds no proof by itself.
     for (t, way) in ways[..places.len()].iter().enumerate() {
         if way.has(t) {
             return false;

@@ -54,6 +54,9 @@ module _ (z : Sizes) (m : Memory) (ok : sound z m ≡ true) (a t : ℕ) (owns : 
   pub run_inside : run_start z t + (place m t).count ≤ length m.entries
   run_inside = run_fits z m ok t task_below
 
+  pub run_long : (place m t).count ≤ length (drop (run_start z t) m.entries)
+  run_long = omega (arith, run_inside, length-drop (run_start z t) m.entries)
+
   -- it has an entry on the record
   pub on_record : index_on z.records (a % z.records) (run z m t (place m t).count) < (place m t).count
   unfolding index_on

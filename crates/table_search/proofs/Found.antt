@@ -1,15 +1,26 @@
 -- What is known of a search by what it found, and what it finds by what is known.
 use Prim.Native.Nat.{ℕ, ◌<◌, ◌≤◌}
-use mathlib.Core.Path.{◌≡◌}
+use mathlib.Core.Path.{◌≡◌, ap, ◌∙◌}
 use mathlib.Core.Logic.{⊎_elim}
-use mathlib.Core.List.{List}
-use lib.ListN.{length, get_or}
+use mathlib.Core.List.{List, [], map}
+use lib.ListN.{length, get_or, take, length-map, get_or-map}
+use lib.Seq.{length-take-le, get_or-take}
 use borrow.Author.Tests.{lt-ltb, le-ltb}
 use Rattle.std.specs.Prelude.{Some, None}
 use Rattle.std.proofs.lemmas.Bool.{cases_lt}
 use Rattle.memory.specs.declared.Entry.{Entry}
+use Rattle.memory.specs.Pieces.{entry_of}
 use Rattle.memory.specs.Logical.{blank}
 use Rattle.table_search.specs.Contract.{found}
+
+-- the entries that the first n rows of a run hold
+module _ (run : List (List ℕ)) (n : ℕ) (fits : n ≤ length run) where
+  pub entries-length : length (map entry_of (take n run)) ≡ n
+  entries-length = length-map (take n run) entry_of ∙ length-take-le n run fits
+
+  pub entry_at : (i : ℕ) → i < n → get_or (map entry_of (take n run)) i blank ≡ entry_of (get_or run i [])
+  unfolding blank entry_of
+  entry_at i h = get_or-map entry_of (take n run) i [] ∙ ap entry_of (get_or-take n run i [] h)
 
 module _ (k : ℕ) (es : List Entry) where
   pub finds : k < length es → found k es ≡ Some (get_or es k blank)

@@ -15,5 +15,6 @@ pub fn look_sound(sound: SoundBoard, address: usize) -> Looked
     if sound.board.sizes.words <= address {
         return Looked::from(Answer::from(Refusal::NoAddress));
     }
-    Looked::from(table_look::logical(sound, address))
+    let seen = table_look::logical(sound, address);
+    Looked::from(seen)
 }

@@ -4,7 +4,7 @@ use native.Mathlib.Omega.{arith}
 use mathlib.Core.Path.{◌≡◌, refl, ◌∙◌}
 use mathlib.Core.List.{List, []}
 use mathlib.Core.Bool.{Bool, true, false, ◌&&◌}
-use lib.ListN.{length, get_or}
+use lib.ListN.{length, get_or, replicate, length-replicate, get_or-replicate}
 use borrow.Author.Tests.{eqb-true}
 use Rattle.memory.specs.declared.Sizes.{Sizes}
 use Rattle.memory.specs.declared.Held.{Held}
@@ -12,10 +12,20 @@ use Rattle.memory.specs.declared.Held.TheVariants.{Version, Owner}
 use Rattle.memory.specs.Pieces.{memory, held_of, held, place, entry, limit, most_words, most_records, most_tasks}
 use Rattle.memory.specs.Lists.{on_list}
 use Rattle.memory.specs.Sound.{sizes_ok, lengths_ok, task_ok, held_ok, join_ok, joins_ok, lists_ok, sound}
-use Rattle.table_walk.specs.Walk.{Fit, tables_ok}
+use Rattle.table_walk.specs.Walk.{Fit, Room, tables_ok}
 use Rattle.memory.proofs.Tools.{and_0, and_1, within_of}
 use Rattle.memory.proofs.Limits.{run_last}
 use Rattle.table_parts.proofs.Tests.{below_same}
+
+-- cleared tables of n cells are room for n records
+pub room : (z : Sizes) (n : ℕ) → z.records ≤ n → Room z (replicate n 0) (replicate n false)
+room z n h =
+    record {
+      met_size = omega (arith, length-replicate {A = ℕ} n 0);
+      owned_size = omega (arith, length-replicate n false);
+      unmarked = λ r l. get_or-replicate {A = ℕ} n r 0 0 (omega arith);
+      unowned = λ r l. get_or-replicate n r false false (omega arith);
+    }
 
 module _ (z : Sizes) (w r : List ℕ) (p e : List (List ℕ)) where
   pub fit : (sizes_ok z && lengths_ok z (memory w r p e)) ≡ true → Fit z (memory [] r p e)

@@ -7,8 +7,8 @@ use Rattle.table_seen.proofs.look_sound.Goals as goal
 pub returns-then-sound-address : goal.returns-then-sound-address
 returns-then-sound-address c = c.from-then-sound-address.ensures ∙ past_the_words _ _ c.args.sound.sound _ _ c.from.ensures c.if-sound-address.true
 
-pub logical-requires : goal.logical-requires
-logical-requires c = omega arith
+pub logical-seen-requires : goal.logical-seen-requires
+logical-seen-requires c = omega arith
 
 pub returns : goal.returns
-returns c = c.from-2.ensures ∙ seen _ _ c.args.sound.sound _ _ c.logical.ensures (omega arith)
+returns c = c.from-2.ensures ∙ seen _ _ c.args.sound.sound _ _ c.logical-seen.ensures (omega arith)

@@ -1,0 +1,2 @@
+-- What the public calls share.
+pub mod Refusals

@@ -1,0 +1,2 @@
+-- What the contracts of a reader cite.
+pub mod Shown
