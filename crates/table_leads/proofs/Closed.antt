@@ -71,10 +71,8 @@ pub ways_by : (places : List (List ℕ)) (sets sets₁ sets₂ : List TaskSet) �
 ways_by places sets sets₁ sets₂ h F l C =
     let n = length places in
     let q : length sets₁ ≡ n = F.long ∙ length-take-le n sets h in
+    let own = ways_by_all places (take n sets) sets₁ sets₂ (omega (arith, F.long, q)) F l (rw q at C) in
     record {
       long = omega (arith, length-append sets₂ (drop n sets), length-drop n sets);
-      each = λ a b i.
-          ap (λ (s : TaskSet). has s.bits a) (get_or-append sets₂ (drop n sets) no_tasks b (omega arith))
-          ∙ (rw q at C a b (omega arith))
-          ∙ leads_below (told sets₁) (joined_in places) n (λ x y j. ap (λ (s : TaskSet). has s.bits x) (F.each y j)) n (omega arith) a b i;
+      each = λ a b i. ap (λ (s : TaskSet). has s.bits a) (get_or-append sets₂ (drop n sets) no_tasks b (omega arith)) ∙ own.each a b i;
     }
